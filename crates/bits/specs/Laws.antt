@@ -1,0 +1,8 @@
+-- Laws that proofs cite; nothing here has to be believed.
+pub mod Order
+pub mod Diff
+pub mod Wrap
+pub mod Signed
+pub mod Range
+pub mod Words
+pub mod Count

@@ -1,0 +1,1 @@
+-- The language's own counts are the definitions' counts.

@@ -1,0 +1,107 @@
+-- Ranges of integers: bounds that add and multiply, and from them what a signed expression of the code gives.
+use mathlib.Core.Path.{_≡_, refl, sym, ap, _∙_, subst}
+use mathlib.Core.Logic.{⊎-elim}
+use Prim.Native.Nat.{ℕ, zero, suc, _+_, _-_, _*_, _/_, _%_, _^_, _≤_, _<_, suc-le-suc}
+use native.Mathlib.Omega.{arith}
+use native.Mathlib.Nat.{div-le-self, mul-le-mul, le-trans}
+use lib.IntN.{ℤ, pos, negsuc, negℤ, _+ℤ_, _-ℤ_, _*ℤ_, subℕ, natAbs}
+use lib.Signed.{mag, shrZ}
+use mir.Val.{toZ, ofZ, SFits, Fits}
+use mir.Facts.{toZ-ofZ}
+use mir.Syntax.{w64}
+use Rattle.bits.specs.Integers.{signed}
+use Rattle.bits.specs.Laws.Order.{split}
+use Rattle.bits.specs.Laws.Diff.{diff-lt, diff-ge}
+use Rattle.bits.specs.Laws.Signed.{signed-low, signed-high, twice-half}
+
+abs-diff : (a b : ℕ) → natAbs (subℕ a b) ≤ a + b
+abs-diff a b = ⊎-elim (λ h. rw (diff-lt a b h) (omega arith)) (λ h. rw (diff-ge a b h) (omega arith)) (split a b)
+
+abs-diff-le : (a b m : ℕ) → a ≤ b + m → b ≤ a + m → natAbs (subℕ a b) ≤ m
+abs-diff-le a b m h k = ⊎-elim (λ l. rw (diff-lt a b l) (omega arith)) (λ l. rw (diff-ge a b l) (omega arith)) (split a b)
+
+abs-neg : (z : ℤ) → natAbs (negℤ z) ≡ natAbs z
+abs-neg (pos zero) = refl
+abs-neg (pos (suc n)) = refl
+abs-neg (negsuc n) = refl
+
+abs-add : (x y : ℤ) → natAbs (x +ℤ y) ≤ natAbs x + natAbs y
+abs-add (pos a) (pos b) = omega arith
+abs-add (pos a) (negsuc b) = abs-diff a (suc b)
+abs-add (negsuc a) (pos b) = omega (arith, abs-diff b (suc a))
+abs-add (negsuc a) (negsuc b) = omega arith
+
+abs-mul : (x y : ℤ) → natAbs (x *ℤ y) ≡ natAbs x * natAbs y
+abs-mul (pos a) (pos b) = refl
+abs-mul (pos a) (negsuc b) = abs-neg (pos (a * suc b))
+abs-mul (negsuc a) (pos b) = abs-neg (pos (suc a * b))
+abs-mul (negsuc a) (negsuc b) = refl
+
+abs-shr : (z : ℤ) (d : ℕ) → natAbs (shrZ z d) ≤ natAbs z
+abs-shr (pos n) d = div-le-self n d
+abs-shr (negsuc n) d = suc-le-suc (div-le-self n d)
+
+-- z is from -m to m: a record, so that m and z are found from a proof
+pub record Within (m : ℕ) (z : ℤ) : Type 0 where
+  pub within : natAbs z ≤ m
+
+pub in-nat : (n m : ℕ) → n ≤ m → Within m (pos n)
+in-nat n m h = record { within = h }
+
+pub in-add : {x y : ℤ} {m n : ℕ} → Within m x → Within n y → Within (m + n) (x +ℤ y)
+in-add {x} {y} h k = record { within = omega (arith, abs-add x y) }
+
+pub in-sub : {x y : ℤ} {m n : ℕ} → Within m x → Within n y → Within (m + n) (x -ℤ y)
+in-sub {x} {y} h k = record { within = omega (arith, abs-add x (negℤ y), abs-neg y) }
+
+pub in-mul : {x y : ℤ} {m n : ℕ} → Within m x → Within n y → Within (m * n) (x *ℤ y)
+in-mul {x} {y} h k = record { within = rw (abs-mul x y) (mul-le-mul (h .within) (k .within)) }
+
+pub in-shr : {z : ℤ} {m : ℕ} (d : ℕ) → Within m z → Within m (shrZ z d)
+in-shr {z} d h = record { within = le-trans (abs-shr z d) (h .within) }
+
+pub in-signed : (k n : ℕ) → 0 < k → n < 2 ^ k → Within (2 ^ (k - 1)) (signed k n)
+in-signed k n hk hn =
+    ⊎-elim
+    (λ l. record { within = rw (signed-low k n l) (omega arith) })
+    (λ l. record { within = rw (signed-high k n l) (abs-diff-le n (2 ^ k) (2 ^ (k - 1)) (omega (arith, twice-half k hk)) (omega (arith, twice-half k hk))) })
+    (split n (2 ^ (k - 1)))
+
+fit64′ : (z : ℤ) → natAbs z < 2 ^ 63 → SFits w64 z
+fit64′ (pos n) h = record { sfits = h }
+fit64′ (negsuc n) h = record { sfits = omega arith }
+
+pub fit64 : {z : ℤ} {m : ℕ} → Within m z → m < 2 ^ 63 → SFits w64 z
+fit64 {z} h l = fit64′ z (omega arith)
+
+-- a bounded value of the code, read back
+pub read64 : {z : ℤ} {m : ℕ} → Within m z → m < 2 ^ 63 → toZ w64 (ofZ w64 z) ≡ z
+read64 h l = toZ-ofZ (fit64 h l)
+
+-- Signed code, mirrored: t is what the logic has for a signed expression, y the integer meant, from -m to m.
+-- A node's `fit-` answers its need, its `is-` gives its value.
+pub record Is (m : ℕ) (t y : ℤ) : Type 0 where
+  pub same : t ≡ y
+  pub size : Within m y
+
+-- a call that promises its value and its bound
+pub is-call : {z y : ℤ} {m : ℕ} → z ≡ y → Within m z → m < 2 ^ 63 → Is m (toZ w64 (ofZ w64 z)) y
+is-call {m = m} e h l = record { same = rw e (read64 (subst (λ x. Within m x) e h) l); size = subst (λ x. Within m x) e h }
+
+pub fit-add : {t y s w : ℤ} {m n : ℕ} → Is m t y → Is n s w → m + n < 2 ^ 63 → SFits w64 (t +ℤ s)
+fit-add p q l = rw (p .same, q .same) (fit64 (in-add (p .size) (q .size)) l)
+
+pub is-add : {t y s w : ℤ} {m n : ℕ} → Is m t y → Is n s w → m + n < 2 ^ 63 → Is (m + n) (toZ w64 (ofZ w64 (t +ℤ s))) (y +ℤ w)
+is-add p q l = record { same = rw (p .same, q .same) (read64 (in-add (p .size) (q .size)) l); size = in-add (p .size) (q .size) }
+
+pub fit-sub : {t y s w : ℤ} {m n : ℕ} → Is m t y → Is n s w → m + n < 2 ^ 63 → SFits w64 (t -ℤ s)
+fit-sub p q l = rw (p .same, q .same) (fit64 (in-sub (p .size) (q .size)) l)
+
+pub is-sub : {t y s w : ℤ} {m n : ℕ} → Is m t y → Is n s w → m + n < 2 ^ 63 → Is (m + n) (toZ w64 (ofZ w64 (t -ℤ s))) (y -ℤ w)
+is-sub p q l = record { same = rw (p .same, q .same) (read64 (in-sub (p .size) (q .size)) l); size = in-sub (p .size) (q .size) }
+
+pub fit-mul : {t y s w : ℤ} {m n : ℕ} → Is m t y → Is n s w → m * n < 2 ^ 63 → SFits w64 (t *ℤ s)
+fit-mul p q l = rw (p .same, q .same) (fit64 (in-mul (p .size) (q .size)) l)
+
+pub is-mul : {t y s w : ℤ} {m n : ℕ} → Is m t y → Is n s w → m * n < 2 ^ 63 → Is (m * n) (toZ w64 (ofZ w64 (t *ℤ s))) (y *ℤ w)
+is-mul p q l = record { same = rw (p .same, q .same) (read64 (in-mul (p .size) (q .size)) l); size = in-mul (p .size) (q .size) }

@@ -1,0 +1,69 @@
+-- Values modulo 2^k.
+use mathlib.Core.Path.{_≡_, refl, sym, ap, _∙_}
+use mathlib.Core.Logic.{⊎-elim}
+use Prim.Native.Nat.{ℕ, zero, suc, _+_, _-_, _*_, _/_, _%_, _^_, _≤_, _<_}
+use native.Mathlib.Omega.{arith}
+use native.Mathlib.Nat.{mod-lt, add-mul-mod-self-right, mod-eq-of-lt, mod-add-mod, div-add-mod'}
+use lib.IntN.{ℤ, pos, negsuc, _+ℤ_, _-ℤ_, subℕ}
+use lib.Pow.{pow-pos, mod-mod-pow}
+use Rattle.bits.specs.Integers.{wrap}
+use Rattle.bits.specs.Laws.Order.{split}
+use Rattle.bits.specs.Laws.Diff.{diff-lt, diff-ge, pos-sub}
+
+-- equal up to a multiple
+pub mod-same : (a b m q : ℕ) → a ≡ b + q * m → a % m ≡ b % m
+mod-same a b m q e = rw e (add-mul-mod-self-right b q m)
+
+-- equal up to a multiple on each side
+pub mod-both : (a b m p q : ℕ) → a + p * m ≡ b + q * m → a % m ≡ b % m
+mod-both a b m p q e = sym (add-mul-mod-self-right a p m) ∙ mod-same (a + p * m) b m q e
+
+pub wrap-lt : (k : ℕ) (z : ℤ) → wrap k z < 2 ^ k
+wrap-lt k (pos n) = mod-lt n (pow-pos k)
+wrap-lt k (negsuc n) = omega (arith, pow-pos k)
+
+-- what wrap gives is the only number below 2^k that differs by a multiple
+pub wrap-diff : (k a b r p q : ℕ) → r < 2 ^ k → r + b + p * 2 ^ k ≡ a + q * 2 ^ k → wrap k (subℕ a b) ≡ r
+wrap-diff k a b r p q h e =
+    ⊎-elim
+    (λ l. rw (diff-lt a b l) (neg l))
+    (λ l. rw (diff-ge a b l) (nonneg l))
+    (split a b)
+  where
+    nonneg : b ≤ a → (a - b) % 2 ^ k ≡ r
+    nonneg l =
+        sym (mod-same (a - b + q * 2 ^ k) (a - b) (2 ^ k) q refl)
+        ∙ mod-same (a - b + q * 2 ^ k) r (2 ^ k) p (omega arith)
+        ∙ mod-eq-of-lt h
+
+    neg : a < b → (2 ^ k - 1) - (b - suc a) % 2 ^ k ≡ r
+    neg l =
+        let m : (b - suc a) % 2 ^ k ≡ (2 ^ k - 1) - r =
+        sym (mod-same (b - suc a + p * 2 ^ k + 2 ^ k) (b - suc a) (2 ^ k) (suc p) (omega arith))
+        ∙ mod-same (b - suc a + p * 2 ^ k + 2 ^ k) ((2 ^ k - 1) - r) (2 ^ k) q (omega (arith, pow-pos k))
+        ∙ mod-eq-of-lt (omega (arith, pow-pos k)) in
+        rw m (omega (arith, pow-pos k))
+
+-- the low half of a long number
+pub wrap-again : (z : ℤ) → wrap 64 z % 2 ^ 32 ≡ wrap 32 z
+wrap-again (pos n) = mod-mod-pow n 32 32
+wrap-again (negsuc n) = omega arith
+
+-- a natural added to a wrapped number
+pub wrap-add : (k : ℕ) (z : ℤ) (n : ℕ) → (wrap k z + n) % 2 ^ k ≡ wrap k (z +ℤ pos n)
+wrap-add k (pos m) n = mod-add-mod m (2 ^ k) n
+wrap-add k (negsuc m) n =
+    sym
+    (wrap-diff k n (suc m) (((2 ^ k - 1) - m % 2 ^ k + n) % 2 ^ k) (((2 ^ k - 1) - m % 2 ^ k + n) / 2 ^ k) (suc (m / 2 ^ k))
+    (mod-lt _ (pow-pos k))
+    (omega (arith, mod-lt m (pow-pos k), div-add-mod' m (2 ^ k), div-add-mod' ((2 ^ k - 1) - m % 2 ^ k + n) (2 ^ k))))
+
+-- what std's wrapping subtraction of a wrapped number gives
+pub wrap-sub : (k : ℕ) (z : ℤ) (n r : ℕ) → r < 2 ^ k → (r + wrap k z) % 2 ^ k ≡ n → r ≡ wrap k (pos n -ℤ z)
+wrap-sub k (pos m) n r h e =
+    let q : ℕ = (r + m % 2 ^ k) / 2 ^ k in
+    sym (ap (wrap k) (pos-sub n m)
+    ∙ wrap-diff k n m r 0 (q + m / 2 ^ k) h (omega (arith, e, div-add-mod' m (2 ^ k), div-add-mod' (r + m % 2 ^ k) (2 ^ k))))
+wrap-sub k (negsuc m) n r h e =
+    let q : ℕ = (r + ((2 ^ k - 1) - m % 2 ^ k)) / 2 ^ k in
+    sym (mod-both (n + suc m) r (2 ^ k) q (suc (m / 2 ^ k)) (omega (arith, e, mod-lt m (pow-pos k), div-add-mod' m (2 ^ k), div-add-mod' (r + ((2 ^ k - 1) - m % 2 ^ k)) (2 ^ k))) ∙ mod-eq-of-lt h)

@@ -1,0 +1,5 @@
+pub mod Cases
+pub mod Fields
+pub mod Integers
+pub mod Words
+pub mod Laws

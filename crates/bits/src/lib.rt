@@ -1,0 +1,1 @@
+// Words, their bits, bytes and signed readings.
