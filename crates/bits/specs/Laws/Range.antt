@@ -7,11 +7,11 @@ use native.Mathlib.Nat.{div-le-self, mul-le-mul, le-trans}
 use lib.IntN.{ℤ, pos, negsuc, negℤ, _+ℤ_, _-ℤ_, _*ℤ_, subℕ, natAbs}
 use lib.Signed.{mag, shrZ}
 use mir.Val.{toZ, ofZ, SFits, Fits}
-use mir.Facts.{toZ-ofZ}
+use mir.Facts.{toZ-ofZ, toZ-pos}
 use mir.Syntax.{w64}
 use Rattle.bits.specs.Integers.{signed}
 use Rattle.bits.specs.Laws.Order.{split}
-use Rattle.bits.specs.Laws.Diff.{diff-lt, diff-ge}
+use Rattle.bits.specs.Laws.Diff.{diff-lt, diff-ge, pos-sub}
 use Rattle.bits.specs.Laws.Signed.{signed-low, signed-high, twice-half}
 
 abs-diff : (a b : ℕ) → natAbs (subℕ a b) ≤ a + b
@@ -87,6 +87,27 @@ pub record Is (m : ℕ) (t y : ℤ) : Type 0 where
 -- a call that promises its value and its bound
 pub is-call : {z y : ℤ} {m : ℕ} → z ≡ y → Within m z → m < 2 ^ 63 → Is m (toZ w64 (ofZ w64 z)) y
 is-call {m = m} e h l = record { same = rw e (read64 (subst (λ x. Within m x) e h) l); size = subst (λ x. Within m x) e h }
+
+-- what a contract with a bound is answered with
+pub told : {t y : ℤ} {m : ℕ} → Is m t y → (t ≡ y) × Within m t
+told i = (i .same, rw (i .same) (i .size))
+
+pub fit-is : {t y : ℤ} {m : ℕ} → Is m t y → m < 2 ^ 63 → SFits w64 t
+fit-is i l = rw (i .same) (fit64 (i .size) l)
+
+pub is-again : {t y : ℤ} {m : ℕ} → Is m t y → m < 2 ^ 63 → Is m (toZ w64 (ofZ w64 t)) y
+is-again i l = record { same = rw (i .same) (read64 (i .size) l); size = i .size }
+
+-- the two ways in which the code reads a word of k bits: as it stands, and less 2^k
+module _ (k n : ℕ) (hk : 0 < k) (hn : n < 2 ^ k) (small : 2 ^ k ≤ 2 ^ 32) where
+  pub reads-low : n < 2 ^ (k - 1) → Is (2 ^ (k - 1)) (toZ w64 n) (signed k n)
+  reads-low l = record { same = toZ-pos w64 (omega arith) ∙ sym (signed-low k n l); size = in-signed k n hk hn }
+
+  pub reads-high : 2 ^ (k - 1) ≤ n → Is (2 ^ (k - 1)) (toZ w64 n -ℤ pos (2 ^ k)) (signed k n)
+  reads-high l = record { same = rw (toZ-pos w64 (small-enough)) (pos-sub n (2 ^ k) ∙ sym (signed-high k n l)); size = in-signed k n hk hn }
+    where
+      small-enough : n < 2 ^ 63
+      small-enough = omega arith
 
 pub fit-add : {t y s w : ℤ} {m n : ℕ} → Is m t y → Is n s w → m + n < 2 ^ 63 → SFits w64 (t +ℤ s)
 fit-add p q l = rw (p .same, q .same) (fit64 (in-add (p .size) (q .size)) l)

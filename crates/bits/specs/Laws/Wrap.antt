@@ -4,11 +4,21 @@ use mathlib.Core.Logic.{⊎-elim}
 use Prim.Native.Nat.{ℕ, zero, suc, _+_, _-_, _*_, _/_, _%_, _^_, _≤_, _<_}
 use native.Mathlib.Omega.{arith}
 use native.Mathlib.Nat.{mod-lt, add-mul-mod-self-right, mod-eq-of-lt, mod-add-mod, div-add-mod'}
-use lib.IntN.{ℤ, pos, negsuc, _+ℤ_, _-ℤ_, subℕ}
+use lib.IntN.{ℤ, pos, negsuc, _+ℤ_, _-ℤ_, subℕ, natAbs}
+use lib.Signed.{ltZ, nonNeg, mag}
+use lib.Dec.{T}
+use mathlib.Core.Bool.{true, false, false≢true}
+use borrow.Author.Tests.{ltb-true}
+use mir.Val.{toZ, ofZ, SFits, Fits}
+use mir.Facts.{toZ-pos}
+use mir.Syntax.{w64}
 use lib.Pow.{pow-pos, mod-mod-pow}
 use Rattle.bits.specs.Integers.{wrap}
 use Rattle.bits.specs.Laws.Order.{split}
 use Rattle.bits.specs.Laws.Diff.{diff-lt, diff-ge, pos-sub}
+
+not-below : (n : ℕ) → n < 0 → ⊥
+not-below n h = omega arith
 
 -- equal up to a multiple
 pub mod-same : (a b m q : ℕ) → a ≡ b + q * m → a % m ≡ b % m
@@ -67,3 +77,24 @@ wrap-sub k (pos m) n r h e =
 wrap-sub k (negsuc m) n r h e =
     let q : ℕ = (r + ((2 ^ k - 1) - m % 2 ^ k)) / 2 ^ k in
     sym (mod-both (n + suc m) r (2 ^ k) q (suc (m / 2 ^ k)) (omega (arith, e, mod-lt m (pow-pos k), div-add-mod' m (2 ^ k), div-add-mod' (r + ((2 ^ k - 1) - m % 2 ^ k)) (2 ^ k))) ∙ mod-eq-of-lt h)
+
+-- The two ways in which the code wraps an i64: a negative one through -1 - z, another as it stands.
+pub negative-size : (z : ℤ) → ltZ z (pos 0) ≡ true → negsuc 0 -ℤ z ≡ pos (mag z)
+negative-size (pos n) e = absurd (not-below n (ltb-true n 0 e))
+negative-size (negsuc n) e = diff-ge (suc n) 1 (omega arith) ∙ ap pos (omega arith)
+
+pub wrap-negative : (z : ℤ) → SFits w64 z → ltZ z (pos 0) ≡ true → (2 ^ 64 - 1) - mag z ≡ wrap 64 z
+wrap-negative (pos n) h e = absurd (not-below n (ltb-true n 0 e))
+wrap-negative (negsuc n) h e = ap (λ (x : ℕ). (2 ^ 64 - 1) - x) (sym (mod-eq-of-lt (omega (arith, h .sfits))))
+
+pub not-negative : (z : ℤ) → ltZ z (pos 0) ≡ false → T (nonNeg z)
+not-negative (pos n) e = tt
+not-negative (negsuc n) e = absurd (false≢true (sym e))
+
+pub wrap-natural : (z : ℤ) → SFits w64 z → ltZ z (pos 0) ≡ false → natAbs z ≡ wrap 64 z
+wrap-natural (pos n) h e = sym (mod-eq-of-lt (omega (arith, h .sfits)))
+wrap-natural (negsuc n) h e = absurd (false≢true (sym e))
+
+pub natural-fits : (z : ℤ) → SFits w64 z → Fits w64 (natAbs z)
+natural-fits (pos n) h = record { fits = omega (arith, h .sfits) }
+natural-fits (negsuc n) h = record { fits = omega (arith, h .sfits) }

@@ -1,0 +1,18 @@
+use lib.Dec.{lit<, lit≤}
+use Rattle.bits.specs.Laws.Range.{reads-low, reads-high, is-again, fit-is, told}
+use borrow.Author.Needs.{needs}
+use Rattle.bits.proofs.signed_half.Statement.{statement}
+use Rattle.bits.proofs.signed_half.Tie as tie
+
+sub-result : tie.Need-sub-result
+sub-result c = fit-is (reads-high 16 (c .before .args .x) (lit< tt) (c .before .fits .x .fits) (lit≤ tt) (c .if1 .left)) (lit< tt)
+
+returns : tie.Need-returns
+returns c = told (reads-low 16 (c .before .args .x) (lit< tt) (c .before .fits .x .fits) (lit≤ tt) (c .if1 .taken))
+
+returns-2 : tie.Need-returns-2
+returns-2 c =
+    told (is-again (reads-high 16 (c .before .args .x) (lit< tt) (c .before .fits .x .fits) (lit≤ tt) (c .if1 .left)) (lit< tt))
+
+pub signed-half-spec : {M : Type 1} → statement M
+signed-half-spec = tie.close (tie.spec (λ c. search needs) (λ c. search needs) sub-result returns returns-2)
