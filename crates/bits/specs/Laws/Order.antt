@@ -2,7 +2,8 @@
 use mathlib.Core.Path.{_≡_, refl, sym, _∙_}
 use mathlib.Core.Bool.{Bool, true, false, _||_}
 use mathlib.Core.Logic.{_⊎_, inl, inr, ⊎-elim}
-use Prim.Native.Nat.{ℕ, _≤_, _<_}
+use Prim.Native.Nat.{ℕ, zero, suc, _≤_, _<_}
+use native.Mathlib.Omega.{arith}
 use lib.Dec.{ltb, leb}
 use borrow.Author.Tests.{lt-ltb, le-ltb, le-leb, lt-leb, ltb-true, ltb-false}
 
@@ -28,3 +29,12 @@ ltb-leb a b c d f g =
 
 pub or-same : {a b c d : Bool} → a ≡ c → b ≡ d → (a || b) ≡ (c || d)
 or-same e f = cc
+
+-- what the last arm of a `match` on 0 to k - 1 knows of its number n: that it is none of them, so at least k
+abbrev pub Apart : ℕ → ℕ → Type 0
+Apart zero n = Unit {0}
+Apart (suc k) n = Apart k n × (n ≡ k → ⊥)
+
+pub apart-le : (k n : ℕ) → Apart k n → k ≤ n
+apart-le zero n r = omega arith
+apart-le (suc k) n r = let h : k ≤ n = apart-le k n (r .0) in let e : n ≡ k → ⊥ = r .1 in omega arith

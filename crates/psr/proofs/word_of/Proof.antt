@@ -1,0 +1,22 @@
+use native.Mathlib.Omega.{arith}
+use borrow.Author.Needs.{needs}
+use Rattle.psr.specs.Status.{wordOf}
+use Rattle.psr.proofs.word_of.Statement.{statement}
+use Rattle.psr.proofs.word_of.Tie as tie
+
+pub word-of-spec : {M : Type 1} → statement M
+unfolding wordOf
+word-of-spec =
+    tie.close
+    (tie.spec
+    (λ c κs. search needs)
+    (λ c κs. search needs)
+    (λ c. search needs)
+    (λ c. search needs)
+    (λ c. search needs)
+    (λ c. search needs)
+    (λ c. search needs)
+    (λ c. search needs)
+    (λ c κs. search needs)
+    (λ c. search needs)
+    (λ c. search needs))
