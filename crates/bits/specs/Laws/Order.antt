@@ -1,6 +1,6 @@
 -- Orders of naturals and their tests.
 use mathlib.Core.Path.{_≡_, refl, sym, _∙_}
-use mathlib.Core.Bool.{Bool, true, false, _||_}
+use mathlib.Core.Bool.{Bool, true, false, not, _||_}
 use mathlib.Core.Logic.{_⊎_, inl, inr, ⊎-elim}
 use Prim.Native.Nat.{ℕ, zero, suc, _≤_, _<_}
 use native.Mathlib.Omega.{arith}
@@ -38,3 +38,6 @@ Apart (suc k) n = Apart k n × (n ≡ k → ⊥)
 pub apart-le : (k n : ℕ) → Apart k n → k ≤ n
 apart-le zero n r = omega arith
 apart-le (suc k) n r = let h : k ≤ n = apart-le k n (r .0) in let e : n ≡ k → ⊥ = r .1 in omega arith
+
+pub not-ltb : (a b : ℕ) → not (ltb a b) ≡ leb b a
+not-ltb a b = ⊎-elim (λ h. rw (lt-ltb a b h, lt-leb b a h)) (λ h. rw (le-ltb a b h, le-leb b a h)) (split a b)

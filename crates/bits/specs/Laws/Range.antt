@@ -98,6 +98,9 @@ fit-is i l = rw (i .same) (fit64 (i .size) l)
 pub is-again : {t y : ℤ} {m : ℕ} → Is m t y → m < 2 ^ 63 → Is m (toZ w64 (ofZ w64 t)) y
 is-again i l = record { same = rw (i .same) (read64 (i .size) l); size = i .size }
 
+pub is-nat : (n m : ℕ) → n ≤ m → m < 2 ^ 63 → Is m (toZ w64 n) (pos n)
+is-nat n m h l = record { same = toZ-pos w64 (omega arith); size = in-nat n m h }
+
 -- the two ways in which the code reads a word of k bits: as it stands, and less 2^k
 module _ (k n : ℕ) (hk : 0 < k) (hn : n < 2 ^ k) (small : 2 ^ k ≤ 2 ^ 32) where
   pub reads-low : n < 2 ^ (k - 1) → Is (2 ^ (k - 1)) (toZ w64 n) (signed k n)

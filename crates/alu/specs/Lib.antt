@@ -1,0 +1,5 @@
+pub mod Sums
+pub mod Saturation
+pub mod Numbers
+pub mod Chains
+pub mod Laws
