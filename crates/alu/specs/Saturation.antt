@@ -1,5 +1,5 @@
 -- Saturation (DDI 0100I, Glossary: SignedSat, UnsignedSat, and their DoesSat).
-use mathlib.Core.Bool.{Bool, _||_}
+use mathlib.Core.Bool.{_||_}
 use Prim.Native.Nat.{ℕ, _-_, _^_}
 use lib.IntN.{ℤ, pos}
 use lib.Signed.{ltZ}

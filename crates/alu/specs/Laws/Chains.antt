@@ -1,7 +1,7 @@
 -- Demand 3 on any machine: links that a machine took are a chain of numbers.
 use mathlib.Core.Path.{_≡_, refl, ap, _∙_, subst}
 use mathlib.Core.Bool.{Bool, true, false}
-use mathlib.Core.List.{List, [], _∷_}
+use mathlib.Core.List.{List, _∷_}
 use Prim.Native.Nat.{ℕ}
 use Rattle.alu.specs.declared.Sum.{Sum}
 use Rattle.alu.specs.Sums.{sbcOf, adcOf}

@@ -1,19 +1,18 @@
 -- Demand 3 on numbers: a chain's words, its last carry and its last signs, by induction over the pairs with the carry general.
 use mathlib.Core.Path.{_≡_, refl, sym, ap, _∙_}
 use mathlib.Core.List.{List, [], _∷_}
-use mathlib.Core.Bool.{Bool, true, false, not, _||_}
+use mathlib.Core.Bool.{Bool, true, false, _||_}
 use mathlib.Core.Logic.{_⊎_, inl, inr, ⊎-elim}
 use Prim.Native.Nat.{ℕ, suc, _+_, _-_, _*_, _/_, _%_, _^_, _<_, _≤_}
 use native.Mathlib.Omega.{arith}
 use native.Mathlib.Nat.{mod-eq-of-lt}
-use lib.IntN.{pos, subℕ}
-use lib.Signed.{ltZ, leZ}
+use lib.IntN.{subℕ}
 use lib.ListN.{length}
 use lib.Pow.{pow-add}
 use lib.Dec.{ltb, leb}
 use borrow.Author.Tests.{lt-ltb, le-ltb, le-leb, lt-leb}
 use Rattle.bits.specs.Fields.{bitOf}
-use Rattle.bits.specs.Integers.{signed, wrap, outside}
+use Rattle.bits.specs.Integers.{signed, wrap}
 use Rattle.bits.specs.Laws.Order.{split, ltb-same, leb-same, or-same}
 use Rattle.bits.specs.Laws.Diff.{diff-eq, diff-pos, diff-add, diff-ltZ, pos-sub}
 use Rattle.bits.specs.Laws.Wrap.{wrap-diff, mod-both}
@@ -21,7 +20,7 @@ use Rattle.bits.specs.Laws.Signed.{lifted, twice-half, signed-low, signed-high,
 use Rattle.alu.specs.declared.Sum.{Sum}
 use Rattle.alu.specs.Sums.{sbcOf, adcOf, negative}
 use Rattle.alu.specs.Numbers.{numberOf, Pair, firsts, seconds, Words, wordsOf, lastOf, A, B, width, differ, Difference, Total}
-use Rattle.alu.specs.Laws.Sums.{bit-le, bit-not, adc-law, sbc-law}
+use Rattle.alu.specs.Laws.Sums.{bit-le, adc-law, sbc-law}
 
 -- what a carry of a subtraction lacks: a function of its own, so that `lack c * m` is one term for `omega`
 abbrev lack : Bool → ℕ

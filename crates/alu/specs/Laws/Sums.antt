@@ -1,14 +1,14 @@
 -- What the code computes in u64 is the exact sum's value, carry and overflow.
-use mathlib.Core.Path.{_≡_, refl, sym, ap, _∙_}
+use mathlib.Core.Path.{_≡_, refl, ap, _∙_}
 use mathlib.Core.Bool.{Bool, true, false, not, _||_}
-use Prim.Native.Nat.{ℕ, suc, _+_, _-_, _*_, _/_, _%_, _^_, _<_, _≤_}
+use Prim.Native.Nat.{ℕ, _+_, _-_, _*_, _/_, _%_, _^_, _<_, _≤_}
 use native.Mathlib.Omega.{arith}
-use lib.IntN.{ℤ, pos, _+ℤ_, _-ℤ_, subℕ, +ℤ-idr}
-use lib.Signed.{ltZ, leZ}
+use lib.IntN.{pos, _+ℤ_, _-ℤ_, subℕ, +ℤ-idr}
+use lib.Signed.{ltZ}
 use lib.Dec.{ltb, leb, lit<}
 use Rattle.bits.specs.Fields.{bitOf}
 use Rattle.bits.specs.Integers.{signed, wrap, outside}
-use Rattle.bits.specs.Laws.Order.{ltb-same, leb-same, ltb-leb, or-same, not-ltb}
+use Rattle.bits.specs.Laws.Order.{ltb-same, leb-same, or-same, not-ltb}
 use Rattle.bits.specs.Laws.Diff.{diff-add, diff-sub, diff-pos, diff-ltZ, pos-sub, diff-sub-pos, diff-add-pos}
 use Rattle.bits.specs.Laws.Wrap.{wrap-diff}
 use Rattle.bits.specs.Laws.Signed.{lifted, signed-lifted, outside-diff}

@@ -1,5 +1,5 @@
 use mathlib.Core.Path.{_≡_}
-use Prim.Native.Nat.{_+_, _-_, _/_, _%_, _^_, suc}
+use Prim.Native.Nat.{_+_, _-_, _/_, _^_, suc}
 use native.Mathlib.Omega.{arith}
 use native.Mathlib.Nat.{mod-le}
 use lib.Pow.{shr-le}

@@ -5,7 +5,7 @@ use Prim.Native.Nat.{ℕ, zero, suc, _+_, _*_, _/_, _%_, _^_, _≤_, _<_}
 use native.Mathlib.Omega.{arith}
 use lib.Count.{leadingZeros, leading-unique, ones, ones-step}
 use borrow.Author.Tests.{lt-leb, le-leb}
-use Rattle.bits.specs.Cases.{if_then_else_, if-yes, if-no}
+use Rattle.bits.specs.Cases.{if-yes, if-no}
 use Rattle.bits.specs.Words.{zerosAbove, onesOf}
 use Rattle.bits.specs.Laws.Order.{split}
 

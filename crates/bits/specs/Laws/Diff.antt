@@ -1,6 +1,6 @@
 -- Integers as differences of naturals: `subℕ a b` is a - b, so that every operation on ℤ is one on naturals, which `omega` ends.
 use mathlib.Core.Path.{_≡_, refl, sym, ap, _∙_}
-use mathlib.Core.Bool.{Bool, not, _||_}
+use mathlib.Core.Bool.{not}
 use mathlib.Core.Logic.{⊎-elim}
 use Prim.Native.Nat.{ℕ, zero, suc, _+_, _-_, _*_, _≤_, _<_}
 use native.Mathlib.Omega.{arith}

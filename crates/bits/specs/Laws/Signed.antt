@@ -1,17 +1,16 @@
 -- The signed reading at any width, as a difference and as a bound.
-use mathlib.Core.Path.{_≡_, refl, sym, ap, _∙_}
+use mathlib.Core.Path.{_≡_, _∙_}
 use mathlib.Core.Bool.{_||_}
 use mathlib.Core.Logic.{⊎-elim}
-use Prim.Native.Nat.{ℕ, zero, suc, _+_, _-_, _*_, _%_, _^_, _≤_, _<_}
+use Prim.Native.Nat.{ℕ, suc, _+_, _-_, _*_, _%_, _^_, _≤_, _<_}
 use native.Mathlib.Omega.{arith}
 use native.Mathlib.Nat.{mod-eq-of-lt, pow-suc}
-use lib.IntN.{ℤ, pos, negℤ, _-ℤ_, subℕ}
-use lib.Signed.{ltZ, leZ}
+use lib.IntN.{pos, _-ℤ_, subℕ}
 use lib.Dec.{ltb, leb}
 use lib.Pow.{pow-pos}
 use borrow.Author.Tests.{lt-ltb, le-ltb}
-use Rattle.bits.specs.Cases.{if_then_else_, if-yes, if-no}
-use Rattle.bits.specs.Integers.{signed, wrap, outside, least, greatest}
+use Rattle.bits.specs.Cases.{if-yes, if-no}
+use Rattle.bits.specs.Integers.{signed, wrap, outside}
 use Rattle.bits.specs.Laws.Order.{split, ltb-same, ltb-leb, or-same}
 use Rattle.bits.specs.Laws.Diff.{diff-eq, diff-pos, diff-ltZ, neg-pos, pos-sub}
 use Rattle.bits.specs.Laws.Wrap.{mod-both, wrap-diff}

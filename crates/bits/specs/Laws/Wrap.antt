@@ -1,7 +1,7 @@
 -- Values modulo 2^k.
 use mathlib.Core.Path.{_≡_, refl, sym, ap, _∙_}
 use mathlib.Core.Logic.{⊎-elim}
-use Prim.Native.Nat.{ℕ, zero, suc, _+_, _-_, _*_, _/_, _%_, _^_, _≤_, _<_}
+use Prim.Native.Nat.{ℕ, suc, _+_, _-_, _*_, _/_, _%_, _^_, _≤_, _<_}
 use native.Mathlib.Omega.{arith}
 use native.Mathlib.Nat.{mod-lt, add-mul-mod-self-right, mod-eq-of-lt, mod-add-mod, div-add-mod'}
 use lib.IntN.{ℤ, pos, negsuc, _+ℤ_, _-ℤ_, subℕ, natAbs}
@@ -9,8 +9,7 @@ use lib.Signed.{ltZ, nonNeg, mag}
 use lib.Dec.{T}
 use mathlib.Core.Bool.{true, false, false≢true}
 use borrow.Author.Tests.{ltb-true}
-use mir.Val.{toZ, ofZ, SFits, Fits}
-use mir.Facts.{toZ-pos}
+use mir.Val.{SFits, Fits}
 use mir.Syntax.{w64}
 use lib.Pow.{pow-pos, mod-mod-pow}
 use Rattle.bits.specs.Integers.{wrap}

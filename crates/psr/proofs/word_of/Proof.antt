@@ -1,4 +1,3 @@
-use native.Mathlib.Omega.{arith}
 use borrow.Author.Needs.{needs}
 use Rattle.psr.specs.Status.{wordOf}
 use Rattle.psr.proofs.word_of.Statement.{statement}
