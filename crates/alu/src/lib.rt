@@ -41,11 +41,11 @@ pub fn sbc_with_flags(a: u32, b: u32, c: bool) -> Sum
     ensures { λ r. ⌜ r ≡ sbcOf a b c ⌝ }
 {
     let more = bits::bit_of(c) as u64;
-    let wide = a as u64 + 0xFFFF_FFFF - b as u64 + more;
+    let raised = a as u64 + 0xFFFF_FFFF - b as u64 + more;
     let lifted = lift(a) + 0xFFFF_FFFF - lift(b) + more;
     Sum {
-        value: (wide % 0x1_0000_0000) as u32,
-        carry: 0x1_0000_0000 <= wide,
+        value: (raised % 0x1_0000_0000) as u32,
+        carry: 0x1_0000_0000 <= raised,
         overflow: (lifted < 0x8000_0000) | (0x1_8000_0000 <= lifted),
     }
 }

@@ -1,0 +1,27 @@
+-- No room for a second outcome (document 01, section 7): for each public call, two outcomes that meet its promise are the same.
+use mathlib.Core.Path.{_≡_, sym, _∙_}
+use mathlib.Core.Bool.{Bool}
+use Prim.Native.Nat.{ℕ}
+use Rattle.psr.specs.declared.Status.{Status}
+use Rattle.psr.specs.declared.Packed.{Packed}
+use Rattle.psr.specs.Status.{Packs, Unpacks}
+use Rattle.shifter.specs.declared.Operand.{Operand}
+use Rattle.shifter.specs.Shifts.{ShiftsByImmediate, ShiftsByRegister}
+
+-- each promise is an equation with a value that the input gives
+same : {X : Type 0} {value r t : X} → r ≡ value → t ≡ value → r ≡ t
+same p q = p ∙ sym q
+
+pub packing : (s : Status) (r t : Packed) → Packs s r → Packs s t → r ≡ t
+packing s r t p q = same p q
+
+pub unpacking : (w : ℕ) (r t : Status) → Unpacks w r → Unpacks w t → r ≡ t
+unpacking w r t p q = same p q
+
+pub shifting-by-immediate : (kind value amount : ℕ) (carry : Bool) (r t : Operand)
+    → ShiftsByImmediate kind value amount carry r → ShiftsByImmediate kind value amount carry t → r ≡ t
+shifting-by-immediate kind value amount carry r t p q = same p q
+
+pub shifting-by-register : (kind value amount : ℕ) (carry : Bool) (r t : Operand)
+    → ShiftsByRegister kind value amount carry r → ShiftsByRegister kind value amount carry t → r ≡ t
+shifting-by-register kind value amount carry r t p q = same p q
