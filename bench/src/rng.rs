@@ -27,8 +27,22 @@ impl Rng {
         ((u64::from(self.word()) * u64::from(n)) >> 32) as u32
     }
 
-    pub fn pick(&mut self, from: &[u32]) -> u32 {
-        from[self.below(from.len() as u32) as usize]
+    /// Below `n` half the time, else any word.
+    pub fn often_below(&mut self, n: u32) -> u32 {
+        if self.flip() {
+            self.below(n)
+        } else {
+            self.word()
+        }
+    }
+
+    /// One of `from` a quarter of the time, else any word.
+    pub fn sometimes_of(&mut self, from: &[u32]) -> u32 {
+        if self.below(4) == 0 {
+            from[self.below(from.len() as u32) as usize]
+        } else {
+            self.word()
+        }
     }
 }
 

@@ -165,21 +165,11 @@ pub fn directed(checker: &mut Checker) -> Result<(), String> {
 }
 
 pub fn random(rng: &mut Rng, form: Form) -> Shift {
-    let kind = if rng.flip() { rng.below(4) } else { rng.word() };
-    let amount = if rng.flip() {
-        rng.below(66)
-    } else {
-        rng.word()
-    };
     Shift {
         form,
-        kind,
-        value: if rng.below(4) == 0 {
-            rng.pick(&EDGES)
-        } else {
-            rng.word()
-        },
-        amount,
+        kind: rng.often_below(4),
+        value: rng.sometimes_of(&EDGES),
+        amount: rng.often_below(66),
         carry: rng.flip(),
     }
 }
