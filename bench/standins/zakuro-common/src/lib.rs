@@ -1,0 +1,3 @@
+//! Stands in for the root of zakuro-common, of which the text gives one module.
+
+pub mod bits;
