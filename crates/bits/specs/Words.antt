@@ -21,15 +21,15 @@ lanesOf x = x ⟨ 7 ‥ 0 ⟩ ∷ x ⟨ 15 ‥ 8 ⟩ ∷ x ⟨ 23 ‥ 16 ⟩ ∷
 abbrev pub joinedOf : List ℕ → ℕ
 joinedOf b = getD b 0 0 + getD b 1 0 * 2 ^ 8 + getD b 2 0 * 2 ^ 16 + getD b 3 0 * 2 ^ 24
 
--- A4.1.66 REV: the bytes in the other order
+-- A4.1.56 REV: the bytes in the other order
 abbrev pub revOf : ℕ → ℕ
 revOf x = x ⟨ 31 ‥ 24 ⟩ + x ⟨ 23 ‥ 16 ⟩ * 2 ^ 8 + x ⟨ 15 ‥ 8 ⟩ * 2 ^ 16 + x ⟨ 7 ‥ 0 ⟩ * 2 ^ 24
 
--- A4.1.67 REV16: the bytes of each halfword in the other order
+-- A4.1.57 REV16: the bytes of each halfword in the other order
 abbrev pub rev16Of : ℕ → ℕ
 rev16Of x = x ⟨ 15 ‥ 8 ⟩ + x ⟨ 7 ‥ 0 ⟩ * 2 ^ 8 + x ⟨ 31 ‥ 24 ⟩ * 2 ^ 16 + x ⟨ 23 ‥ 16 ⟩ * 2 ^ 24
 
--- A4.1.68 REVSH: the bytes of the low halfword in the other order, sign extended
+-- A4.1.58 REVSH: the bytes of the low halfword in the other order, sign extended
 abbrev pub revshOf : ℕ → ℕ
 revshOf x = extendedOf 16 (x ⟨ 15 ‥ 8 ⟩ + x ⟨ 7 ‥ 0 ⟩ * 2 ^ 8)
 

@@ -32,7 +32,7 @@ modeOf m =
     else if m == 0b11111 then System
     else User
 
--- A2.5, Figure A2-1: the word of a record
+-- A2.5: the word of a record
 unfoldable pub wordOf : Status → ℕ
 wordOf s =
     bitOf (s .n) * 2 ^ 31
