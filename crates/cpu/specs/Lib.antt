@@ -1,0 +1,5 @@
+pub mod With
+pub mod Answers
+pub mod Outcomes
+pub mod Banks
+pub mod Laws
