@@ -1,7 +1,7 @@
 -- The cases marked P in document 01, section 8: one table, and the theorem that the definitions give each row.
 use mathlib.Core.Path.{_≡_, refl}
 use mathlib.Core.Bool.{Bool, true, false}
-use mathlib.Core.List.{List, [], _∷_}
+use mathlib.Core.List.{[], _∷_}
 use Prim.Native.Nat.{ℕ}
 use Rattle.bits.specs.Cases.{if_then_else_}
 use Rattle.bits.specs.Fields.{_⟨_‥_⟩}
@@ -13,7 +13,6 @@ use Rattle.alu.specs.Sums.{sbcOf, adcOf, negative}
 use Rattle.alu.specs.Numbers.{Pair, wordsOf, lastOf}
 use Rattle.shifter.specs.declared.ShiftType.the-variants.{Lsl, Lsr, Asr, Ror}
 use Rattle.shifter.specs.declared.ShiftType.{ShiftType}
-use Rattle.shifter.specs.declared.Operand.{Operand}
 use Rattle.shifter.specs.Shifts.{operand, shiftedOf, signsOf, byImmediateOf, byRegisterOf}
 
 abbrev sum : ℕ → Bool → Bool → Sum

@@ -1,5 +1,4 @@
 pub mod With
 pub mod Answers
 pub mod Outcomes
-pub mod Banks
 pub mod Laws

@@ -1,6 +1,6 @@
 // The machine, its answers, and what a family of instructions leaves to do.
 ghost use mathlib.Core.Path.{_≡_};
-ghost use Prim.Native.Nat.{_<_, _≤_};
+ghost use Prim.Native.Nat.{_<_};
 ghost use Rattle.cpu.specs.Answers.{reported, badOf};
 ghost use Rattle.cpu.specs.Outcomes.{leaves, nothing, flags, flagsOf, sticky, lanes, exchange, tagged, untagged, returns, moves, block, calls, stops, doneOf, putOf, jumpedOf, landedOf, exchangedOf};
 use psr::Status;

@@ -3,8 +3,6 @@ use mathlib.Core.Bool.{Bool}
 use Prim.Native.Nat.{ℕ, _+_, _*_, _^_}
 use Rattle.bits.specs.Cases.{if_then_else_, _≤?_}
 use Rattle.bits.specs.Fields.{_⟨_‥_⟩, bitOf}
-use Rattle.psr.specs.declared.Status.{Status}
-use Rattle.psr.specs.declared.Packed.{Packed}
 use Rattle.psr.specs.Status.{statusOf, packedOf}
 use Rattle.psr.specs.With.{withGe}
 use Rattle.shifter.specs.declared.Operand.{Operand}

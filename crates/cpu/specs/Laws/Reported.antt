@@ -1,6 +1,5 @@
 -- No two answers report the same number and values.
 use mathlib.Core.Path.{_≡_, refl, sym, ap, _∙_}
-use Prim.Native.Nat.{ℕ}
 use Rattle.bits.specs.Cases.{if_then_else_, _==_}
 use Rattle.cpu.specs.declared.Answer.{Answer}
 use Rattle.cpu.specs.declared.Answer.the-variants.{Done, Supervisor, Undefined, Breakpoint, Coprocessor, Thumb, Fetch, Bus, BadState, TooLong, Timeout, TransferForm}
