@@ -93,7 +93,7 @@ fn half(w: u32, top: bool) -> i64
     ensures { λ r. ⌜ (r ≡ halfOf w top) × Within (2 ^ 15) r ⌝ }
 {
     if top {
-        bits::signed_half((w / 65536) as u16)
+        bits::signed_half((w / 65536 % 65536) as u16)
     } else {
         bits::signed_half((w % 65536) as u16)
     }
@@ -189,7 +189,11 @@ fn dual(m: u32, s: u32, subtract: bool, x: bool) -> i64
     ensures { λ r. ⌜ (r ≡ dualOf m s subtract x) × Within (2 ^ 32 + 2 ^ 62) r ⌝ }
 {
     let b = second(s, x);
-    total(halves(m, b, false, false), halves(m, b, true, true), subtract)
+    total(
+        halves(m, b, false, false),
+        halves(m, b, true, true),
+        subtract,
+    )
 }
 
 pub fn smuad(m: u32, s: u32, subtract: bool, x: bool) -> Sticky

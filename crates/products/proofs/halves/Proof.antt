@@ -1,25 +1,20 @@
+use lib.Dec.{lit<}
+use Rattle.bits.specs.Laws.Range.{is-call, is-mul, fit-mul, told}
 use borrow.Author.Needs.{needs}
 use Rattle.products.proofs.halves.Statement.{statement}
 use Rattle.products.proofs.halves.Tie as tie
-use Rattle.products.proofs.halves.Reads as reads
-use Rattle.products.proofs.halves.Lts as lts
-use Rattle.products.proofs.half.Reads as half-reads
 
--- src/lib.rt:106:5
-half-requires : tie.Need-half-requires
-half-requires c κs = search needs
-
--- src/lib.rt:106:18
-half-requires-2 : tie.Need-half-requires-2
-half-requires-2 c κs = search needs
-
--- src/lib.rt:106:5
 mul-result : tie.Need-mul-result
-mul-result c = ?
+mul-result c =
+    let m = c .before .half .ensures in
+    let s = c .half2 .ensures in
+    fit-mul (is-call (m .0) (m .1) (lit< tt)) (is-call (s .0) (s .1) (lit< tt)) (lit< tt)
 
--- src/lib.rt:103:1
 returns : tie.Need-returns
-returns c = ?
+returns c =
+    let m = c .before .half .ensures in
+    let s = c .half2 .ensures in
+    told (is-mul (is-call (m .0) (m .1) (lit< tt)) (is-call (s .0) (s .1) (lit< tt)) (lit< tt))
 
 pub halves-spec : {M : Type 1} → statement M
-halves-spec = tie.close (tie.spec half-requires half-requires-2 mul-result returns)
+halves-spec = tie.close (tie.spec (λ c κs. search needs) (λ c κs. search needs) mul-result returns)

@@ -1,17 +1,13 @@
+use mir.Facts.{toZ-ofZ}
+use Rattle.bits.specs.Integers.{outside}
+use Rattle.products.specs.Products.{stickyOf}
 use borrow.Author.Needs.{needs}
 use Rattle.products.proofs.mark.Statement.{statement}
 use Rattle.products.proofs.mark.Tie as tie
-use Rattle.products.proofs.mark.Reads as reads
-use Rattle.products.proofs.mark.Lts as lts
-use Rattle.bits.proofs.wrap_word.Reads as wrap-word-reads
 
--- src/lib.rt:113:16
-wrap-word-requires : tie.Need-wrap-word-requires
-wrap-word-requires c κs = search needs
-
--- src/lib.rt:109:1
 returns : tie.Need-returns
-returns c = ?
+unfolding stickyOf outside
+returns c = rw (c .wrap-word .ensures, toZ-ofZ (c .before .fits .z))
 
 pub mark-spec : {M : Type 1} → statement M
-mark-spec = tie.close (tie.spec wrap-word-requires returns)
+mark-spec = tie.close (tie.spec (λ c κs. search needs) returns)

@@ -1,21 +1,16 @@
+use Rattle.bits.specs.Cases.{if_then_else_}
+use Rattle.products.specs.Duals.{secondOf}
 use borrow.Author.Needs.{needs}
 use Rattle.products.proofs.second.Statement.{statement}
 use Rattle.products.proofs.second.Tie as tie
-use Rattle.products.proofs.second.Reads as reads
-use Rattle.products.proofs.second.Lts as lts
-use Rattle.bits.proofs.rotate_right.Reads as rotate-right-reads
 
--- src/lib.rt:185:12
-rotate-right-requires : tie.Need-rotate-right-requires
-rotate-right-requires c κs = search needs
-
--- src/lib.rt:182:1
 returns : tie.Need-returns
-returns c = ?
+unfolding secondOf if_then_else_
+returns c = rw (c .before .if1 .taken) (c .rotate-right .ensures)
 
--- src/lib.rt:182:1
 returns-2 : tie.Need-returns-2
-returns-2 c = ?
+unfolding secondOf if_then_else_
+returns-2 c = rw (c .if1 .left)
 
 pub second-spec : {M : Type 1} → statement M
-second-spec = tie.close (tie.spec rotate-right-requires returns returns-2)
+second-spec = tie.close (tie.spec (λ c κs. search needs) returns returns-2)

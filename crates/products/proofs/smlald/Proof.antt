@@ -1,22 +1,13 @@
+use lib.Dec.{lit<}
+use Rattle.bits.specs.Laws.Range.{is-call}
+use Rattle.products.specs.Duals.{smlaldOf}
 use borrow.Author.Needs.{needs}
 use Rattle.products.proofs.smlald.Statement.{statement}
 use Rattle.products.proofs.smlald.Tie as tie
-use Rattle.products.proofs.smlald.Reads as reads
-use Rattle.products.proofs.smlald.Lts as lts
-use Rattle.products.proofs.accumulate.Reads as accumulate-reads
-use Rattle.products.proofs.dual.Reads as dual-reads
 
--- src/lib.rt:210:16
-dual-requires : tie.Need-dual-requires
-dual-requires c κs = search needs
-
--- src/lib.rt:210:5
-accumulate-requires : tie.Need-accumulate-requires
-accumulate-requires c κs = search needs
-
--- src/lib.rt:207:1
 returns : tie.Need-returns
-returns c = ?
+unfolding smlaldOf
+returns c = let p = c .before .dual .ensures in rw (c .accumulate .ensures, is-call (p .0) (p .1) (lit< tt) .same)
 
 pub smlald-spec : {M : Type 1} → statement M
-smlald-spec = tie.close (tie.spec dual-requires accumulate-requires returns)
+smlald-spec = tie.close (tie.spec (λ c κs. search needs) (λ c κs. search needs) returns)

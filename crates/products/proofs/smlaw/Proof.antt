@@ -1,43 +1,24 @@
+use lib.Dec.{lit<}
+use Rattle.bits.specs.Laws.Range.{is-call, is-add, fit-add}
+use Rattle.products.specs.Products.{smlawOf}
 use borrow.Author.Needs.{needs}
 use Rattle.products.proofs.smlaw.Statement.{statement}
 use Rattle.products.proofs.smlaw.Tie as tie
-use Rattle.products.proofs.smlaw.Reads as reads
-use Rattle.products.proofs.smlaw.Lts as lts
-use Rattle.bits.proofs.signed_word.Reads as signed-word-reads
-use Rattle.products.proofs.mark.Reads as mark-reads
-use Rattle.products.proofs.smulw.Reads as smulw-reads
 
--- src/lib.rt:145:28
-smulw-requires : tie.Need-smulw-requires
-smulw-requires c κs = search needs
-
--- src/lib.rt:145:10
-signed-word-requires : tie.Need-signed-word-requires
-signed-word-requires c κs = search needs
-
--- src/lib.rt:145:46
-signed-word-requires-2 : tie.Need-signed-word-requires-2
-signed-word-requires-2 c κs = search needs
-
--- src/lib.rt:145:10
 add-mark : tie.Need-add-mark
-add-mark c = ?
+add-mark c =
+    let p = c .before .signed-word .ensures in
+    let n = c .signed-word2 .ensures in
+    fit-add (is-call (p .0) (p .1) (lit< tt)) (is-call (n .0) (n .1) (lit< tt)) (lit< tt)
 
--- src/lib.rt:145:5
-mark-requires : tie.Need-mark-requires
-mark-requires c κs = search needs
-
--- src/lib.rt:142:1
 returns : tie.Need-returns
-returns c = ?
+unfolding smlawOf
+returns c =
+    let p = c .before .before .signed-word .ensures in
+    let n = c .before .signed-word2 .ensures in
+    rw (c .mark .ensures, is-add (is-call (p .0) (p .1) (lit< tt)) (is-call (n .0) (n .1) (lit< tt)) (lit< tt) .same, c .before .before .before .smulw .ensures)
 
 pub smlaw-spec : {M : Type 1} → statement M
 smlaw-spec =
     tie.close
-    (tie.spec
-    smulw-requires
-    signed-word-requires
-    signed-word-requires-2
-    add-mark
-    mark-requires
-    returns)
+    (tie.spec (λ c κs. search needs) (λ c κs. search needs) (λ c κs. search needs) add-mark (λ c κs. search needs) returns)

@@ -1,22 +1,13 @@
+use lib.Dec.{lit<}
+use Rattle.bits.specs.Laws.Range.{is-call}
+use Rattle.products.specs.Duals.{smuadOf}
 use borrow.Author.Needs.{needs}
 use Rattle.products.proofs.smuad.Statement.{statement}
 use Rattle.products.proofs.smuad.Tie as tie
-use Rattle.products.proofs.smuad.Reads as reads
-use Rattle.products.proofs.smuad.Lts as lts
-use Rattle.products.proofs.dual.Reads as dual-reads
-use Rattle.products.proofs.mark.Reads as mark-reads
 
--- src/lib.rt:198:10
-dual-requires : tie.Need-dual-requires
-dual-requires c κs = search needs
-
--- src/lib.rt:198:5
-mark-requires : tie.Need-mark-requires
-mark-requires c κs = search needs
-
--- src/lib.rt:195:1
 returns : tie.Need-returns
-returns c = ?
+unfolding smuadOf
+returns c = let p = c .before .dual .ensures in rw (c .mark .ensures, is-call (p .0) (p .1) (lit< tt) .same)
 
 pub smuad-spec : {M : Type 1} → statement M
-smuad-spec = tie.close (tie.spec dual-requires mark-requires returns)
+smuad-spec = tie.close (tie.spec (λ c κs. search needs) (λ c κs. search needs) returns)

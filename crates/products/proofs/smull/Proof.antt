@@ -1,27 +1,20 @@
+use lib.IntN.{_*ℤ_}
+use lib.Dec.{lit<}
+use Rattle.bits.specs.Integers.{signed}
+use Rattle.bits.specs.Laws.Range.{is-call}
+use Rattle.products.specs.Products.{smullOf}
+use Rattle.products.specs.Laws.Products.{long-wrapped}
 use borrow.Author.Needs.{needs}
 use Rattle.products.proofs.smull.Statement.{statement}
 use Rattle.products.proofs.smull.Tie as tie
-use Rattle.products.proofs.smull.Reads as reads
-use Rattle.products.proofs.smull.Lts as lts
-use Rattle.bits.proofs.wrap_long.Reads as wrap-long-reads
-use Rattle.products.proofs.halve.Reads as halve-reads
-use Rattle.products.proofs.words.Reads as words-reads
 
--- src/lib.rt:83:27
-words-requires : tie.Need-words-requires
-words-requires c κs = search needs
-
--- src/lib.rt:83:11
-wrap-long-requires : tie.Need-wrap-long-requires
-wrap-long-requires c κs = search needs
-
--- src/lib.rt:83:5
-halve-requires : tie.Need-halve-requires
-halve-requires c κs = search needs
-
--- src/lib.rt:80:1
 returns : tie.Need-returns
-returns c = ?
+unfolding smullOf
+returns c =
+    let s = c .before .before .before .args in
+    let p = c .before .before .words .ensures in
+    rw (c .halve .ensures, c .before .wrap-long .ensures, is-call (p .0) (p .1) (lit< tt) .same)
+    (long-wrapped (signed 32 (s .m) *ℤ signed 32 (s .s)))
 
 pub smull-spec : {M : Type 1} → statement M
-smull-spec = tie.close (tie.spec words-requires wrap-long-requires halve-requires returns)
+smull-spec = tie.close (tie.spec (λ c κs. search needs) (λ c κs. search needs) (λ c κs. search needs) returns)

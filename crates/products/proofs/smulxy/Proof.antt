@@ -1,22 +1,13 @@
+use lib.Dec.{lit<}
+use Rattle.bits.specs.Laws.Range.{is-call}
+use Rattle.products.specs.Products.{smulxyOf}
 use borrow.Author.Needs.{needs}
 use Rattle.products.proofs.smulxy.Statement.{statement}
 use Rattle.products.proofs.smulxy.Tie as tie
-use Rattle.products.proofs.smulxy.Reads as reads
-use Rattle.products.proofs.smulxy.Lts as lts
-use Rattle.bits.proofs.wrap_word.Reads as wrap-word-reads
-use Rattle.products.proofs.halves.Reads as halves-reads
 
--- src/lib.rt:121:21
-halves-requires : tie.Need-halves-requires
-halves-requires c κs = search needs
-
--- src/lib.rt:121:5
-wrap-word-requires : tie.Need-wrap-word-requires
-wrap-word-requires c κs = search needs
-
--- src/lib.rt:118:1
 returns : tie.Need-returns
-returns c = ?
+unfolding smulxyOf
+returns c = let p = c .before .halves .ensures in rw (c .wrap-word .ensures, is-call (p .0) (p .1) (lit< tt) .same)
 
 pub smulxy-spec : {M : Type 1} → statement M
-smulxy-spec = tie.close (tie.spec halves-requires wrap-word-requires returns)
+smulxy-spec = tie.close (tie.spec (λ c κs. search needs) (λ c κs. search needs) returns)
