@@ -1,7 +1,7 @@
 use lib.Dec.{lit<, lit≤}
-use Rattle.bits.specs.Laws.Range.{is-call, in-nat}
+use Rattle.bits.specs.Laws.Range.{in-nat}
 use Rattle.products.specs.Laws.Duals.{most-law}
-use Rattle.products.specs.Laws.Products.{passed}
+use Rattle.products.specs.Laws.Products.{heard, passed}
 use borrow.Author.Needs.{needs}
 use Rattle.products.proofs.most.Statement.{statement}
 use Rattle.products.proofs.most.Tie as tie
@@ -12,9 +12,7 @@ total-requires c κs = (in-nat 0 4294967296 (lit≤ tt), passed (c .words .ensur
 returns : tie.Need-returns
 returns c =
     let s = c .before .before .before .before .before .args in
-    let t = c .before .before .before .total .ensures in
-    let p = c .before .before .before .before .words .ensures in
-    rw (c .wrapping-add-u64 .ensures, c .before .bit-of .ensures .0, c .before .before .wrap-long .ensures, is-call (t .0) (t .1) (lit< tt) .same, is-call (p .0) (p .1) (lit< tt) .same)
+    rw (c .wrapping-add-u64 .ensures, c .before .bit-of .ensures .0, c .before .before .wrap-long .ensures, heard (c .before .before .before .total .ensures) (lit< tt) .same, heard (c .before .before .before .before .words .ensures) (lit< tt) .same)
     (most-law (s .base) (s .m) (s .s) (s .subtract) (s .r))
 
 pub most-spec : {M : Type 1} → statement M

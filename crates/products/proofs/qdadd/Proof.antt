@@ -1,20 +1,19 @@
 use lib.Dec.{lit<, lit≤}
-use Rattle.bits.specs.Laws.Range.{is-call, is-nat, is-mul, fit-mul}
+use Rattle.bits.specs.Laws.Range.{is-nat, is-mul, fit-mul}
 use Rattle.products.specs.Products.{qdaddOf, doubledOf}
+use Rattle.products.specs.Laws.Products.{heard}
 use borrow.Author.Needs.{needs}
 use Rattle.products.proofs.qdadd.Statement.{statement}
 use Rattle.products.proofs.qdadd.Tie as tie
 
 mul-hold : tie.Need-mul-hold
 mul-hold c =
-    let n = c .signed-word .ensures in
-    fit-mul (is-call (n .0) (n .1) (lit< tt)) (is-nat 2 2 (lit≤ tt) (lit< tt)) (lit< tt)
+    fit-mul (heard (c .signed-word .ensures) (lit< tt)) (is-nat 2 2 (lit≤ tt) (lit< tt)) (lit< tt)
 
 returns : tie.Need-returns
 unfolding qdaddOf doubledOf
 returns c =
-    let n = c .before .before .before .before .signed-word .ensures in
-    rw (c .before .before .qadd .ensures, c .before .before .before .hold .ensures, is-mul (is-call (n .0) (n .1) (lit< tt)) (is-nat 2 2 (lit≤ tt) (lit< tt)) (lit< tt) .same)
+    rw (c .before .before .qadd .ensures, c .before .before .before .hold .ensures, is-mul (heard (c .before .before .before .before .signed-word .ensures) (lit< tt)) (is-nat 2 2 (lit≤ tt) (lit< tt)) (lit< tt) .same)
 
 pub qdadd-spec : {M : Type 1} → statement M
 qdadd-spec =

@@ -1,22 +1,19 @@
 use lib.Dec.{lit<}
-use Rattle.bits.specs.Laws.Range.{is-call, is-add, fit-add}
+use Rattle.bits.specs.Laws.Range.{is-add, fit-add}
 use Rattle.products.specs.Products.{smlaxyOf}
+use Rattle.products.specs.Laws.Products.{heard}
 use borrow.Author.Needs.{needs}
 use Rattle.products.proofs.smlaxy.Statement.{statement}
 use Rattle.products.proofs.smlaxy.Tie as tie
 
 add-mark : tie.Need-add-mark
 add-mark c =
-    let p = c .before .halves .ensures in
-    let n = c .signed-word .ensures in
-    fit-add (is-call (p .0) (p .1) (lit< tt)) (is-call (n .0) (n .1) (lit< tt)) (lit< tt)
+    fit-add (heard (c .before .halves .ensures) (lit< tt)) (heard (c .signed-word .ensures) (lit< tt)) (lit< tt)
 
 returns : tie.Need-returns
 unfolding smlaxyOf
 returns c =
-    let p = c .before .before .halves .ensures in
-    let n = c .before .signed-word .ensures in
-    rw (c .mark .ensures, is-add (is-call (p .0) (p .1) (lit< tt)) (is-call (n .0) (n .1) (lit< tt)) (lit< tt) .same)
+    rw (c .mark .ensures, is-add (heard (c .before .before .halves .ensures) (lit< tt)) (heard (c .before .signed-word .ensures) (lit< tt)) (lit< tt) .same)
 
 pub smlaxy-spec : {M : Type 1} → statement M
 smlaxy-spec =

@@ -1,9 +1,8 @@
 use lib.IntN.{_*ℤ_}
 use lib.Dec.{lit<}
 use Rattle.bits.specs.Integers.{signed}
-use Rattle.bits.specs.Laws.Range.{is-call}
 use Rattle.products.specs.Products.{smullOf}
-use Rattle.products.specs.Laws.Products.{long-wrapped}
+use Rattle.products.specs.Laws.Products.{heard, long-wrapped}
 use borrow.Author.Needs.{needs}
 use Rattle.products.proofs.smull.Statement.{statement}
 use Rattle.products.proofs.smull.Tie as tie
@@ -12,8 +11,7 @@ returns : tie.Need-returns
 unfolding smullOf
 returns c =
     let s = c .before .before .before .args in
-    let p = c .before .before .words .ensures in
-    rw (c .halve .ensures, c .before .wrap-long .ensures, is-call (p .0) (p .1) (lit< tt) .same)
+    rw (c .halve .ensures, c .before .wrap-long .ensures, heard (c .before .before .words .ensures) (lit< tt) .same)
     (long-wrapped (signed 32 (s .m) *ℤ signed 32 (s .s)))
 
 pub smull-spec : {M : Type 1} → statement M

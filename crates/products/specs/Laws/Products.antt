@@ -8,9 +8,13 @@ use mir.Val.{toZ, ofZ}
 use mir.Syntax.{w64}
 use Rattle.bits.specs.Integers.{wrap}
 use Rattle.bits.specs.Laws.Wrap.{wrap-lt}
-use Rattle.bits.specs.Laws.Range.{Within, is-call, told}
+use Rattle.bits.specs.Laws.Range.{Within, Is, is-call, told}
 use Rattle.products.specs.declared.Long.{Long}
 use Rattle.products.specs.Products.{longOf}
+
+-- what a call told, taken up again; belongs in bits, beside `told`
+pub heard : {z y : ℤ} {m : ℕ} → (z ≡ y) × Within m z → m < 2 ^ 63 → Is m (toZ w64 (ofZ w64 z)) y
+heard h l = is-call (h .0) (h .1) l
 
 -- a value known to be from -m to m, handed on
 pub passed : {z : ℤ} {m n : ℕ} → Within m z → m < 2 ^ 63 → m ≤ n → Within n (toZ w64 (ofZ w64 z))
