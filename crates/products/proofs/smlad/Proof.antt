@@ -8,7 +8,8 @@ use Rattle.products.proofs.smlad.Tie as tie
 
 returns : tie.Need-returns
 unfolding smladOf
-returns c = cc (is-add (heard (c .before .before .dual .ensures) (lit< tt)) (heard (c .before .signed-word .ensures) (lit< tt)) (lit< tt) .same)
+returns c =
+    rw (← is-add (heard (c .before .before .dual .ensures) (lit< tt)) (heard (c .before .signed-word .ensures) (lit< tt)) (lit< tt) .same) (search needs)
 
 pub smlad-spec : {M : Type 1} → statement M
 smlad-spec =
