@@ -20,7 +20,7 @@ unfoldable pub dualOf : ℕ → ℕ → Bool → Bool → ℤ
 dualOf m s subtract x =
     totalOf (halfOf m false *ℤ halfOf (secondOf s x) false) (halfOf m true *ℤ halfOf (secondOf s x) true) subtract
 
--- A4.1.85 SMUAD: Q is OverflowFrom of the sum; A4.1.89 SMUSD: the difference always fits (Laws.Duals, smusd-keeps-q)
+-- A4.1.85 SMUAD: Q is OverflowFrom of the sum; A4.1.89 SMUSD: the difference always fits (Laws.Manual, smusd-keeps-q)
 unfoldable pub smuadOf : ℕ → ℕ → Bool → Bool → Sticky
 smuadOf m s subtract x = stickyOf (dualOf m s subtract x)
 
@@ -33,14 +33,14 @@ unfoldable pub smlaldOf : ℕ → ℕ → ℕ → ℕ → Bool → Bool → Long
 smlaldOf m s lo hi subtract x = longOf (dualOf m s subtract x +ℤ pos (pairOf lo hi))
 
 -- (base ± Rm * Rs)[63:32], with R of 0x80000000 more; D6: where the sum leaves 64 bits, these are still its bits 63 to 32
-unfoldable pub mostOf : ℕ → ℕ → ℕ → Bool → Bool → ℕ
+unfoldable pub mostOf : ℤ → ℕ → ℕ → Bool → Bool → ℕ
 mostOf base m s subtract r =
-    (totalOf (pos base) (signed 32 m *ℤ signed 32 s) subtract +ℤ pos (bitOf r * 2 ^ 31)) ⟦ 63 ‥ 32 ⟧
+    (totalOf base (signed 32 m *ℤ signed 32 s) subtract +ℤ pos (bitOf r * 2 ^ 31)) ⟦ 63 ‥ 32 ⟧
 
--- A4.1.84 SMMUL: no base; with `subtract` D4
+-- A4.1.84 SMMUL: no base; with `subtract` the codes of SMMLS or of D4 whose Rn is r15
 unfoldable pub smmulOf : ℕ → ℕ → Bool → Bool → ℕ
-smmulOf m s subtract r = mostOf 0 m s subtract r
+smmulOf m s subtract r = mostOf (pos 0) m s subtract r
 
 -- A4.1.82 SMMLA, A4.1.83 SMMLS: the base is Rn << 32
 unfoldable pub smmlaOf : ℕ → ℕ → ℕ → Bool → Bool → ℕ
-smmlaOf m s n subtract r = mostOf (n * 2 ^ 32) m s subtract r
+smmlaOf m s n subtract r = mostOf (signed 32 n *ℤ pos (2 ^ 32)) m s subtract r

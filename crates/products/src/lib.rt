@@ -1,6 +1,6 @@
 // Every multiplication of the core, on numbers alone; with them the saturating sums, which share their place in the manual.
 ghost use mathlib.Core.Path.{_≡_};
-ghost use Prim.Native.Nat.{_+_, _*_, _^_, _≤_, _<_};
+ghost use Prim.Native.Nat.{_+_, _*_, _^_, _<_};
 ghost use lib.IntN.{pos, _+ℤ_, _*ℤ_};
 ghost use Rattle.bits.specs.Integers.{signed};
 ghost use Rattle.bits.specs.Laws.Range.{Within};
@@ -217,7 +217,7 @@ pub fn smlald(m: u32, s: u32, lo: u32, hi: u32, subtract: bool, x: bool) -> Long
 // The base is below 2^64 - 2^31, so that rounding fits.
 fn most(base: u64, m: u32, s: u32, subtract: bool, r: bool) -> u32
     requires { ⌜ base + 2 ^ 31 < 2 ^ 64 ⌝ }
-    ensures { λ w. ⌜ w ≡ mostOf base m s subtract r ⌝ }
+    ensures { λ w. ⌜ w ≡ mostOf (pos base) m s subtract r ⌝ }
 {
     let product = bits::wrap_long(total(0, words(m, s), subtract));
     let sum = std::num::wrapping_add_u64(product, base + bits::bit_of(r) as u64 * 0x8000_0000);

@@ -12,9 +12,10 @@ total-requires c κs = (passed (c .before .halves .ensures .1) (lit< tt) (lit≤
 returns : tie.Need-returns
 unfolding dualOf
 returns c =
+    let s = c .before .before .before .before .args in
     let t = c .total .ensures in
     let e = rw (heard (c .before .before .halves .ensures) (lit< tt) .same, heard (c .before .halves2 .ensures) (lit< tt) .same, c .before .before .before .second .ensures) at (t .0) in
-    told (is-call e (t .1) (lit< tt))
+    told (is-call {y = dualOf (s .m) (s .s) (s .subtract) (s .x)} e (t .1) (lit< tt))
 
 pub dual-spec : {M : Type 1} → statement M
 dual-spec =

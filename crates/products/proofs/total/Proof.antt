@@ -3,7 +3,6 @@ use Rattle.bits.specs.Cases.{if_then_else_}
 use mathlib.Core.Path.{refl}
 use Rattle.bits.specs.Laws.Range.{is-call, is-add, fit-add, is-sub, fit-sub, told}
 use Rattle.products.specs.Products.{totalOf}
-use borrow.Author.Needs.{needs}
 use Rattle.products.proofs.total.Statement.{statement}
 use Rattle.products.proofs.total.Tie as tie
 

@@ -1,13 +1,13 @@
 -- Where the manual's pseudo-code is written otherwise than the definitions, it gives the same.
-use mathlib.Core.Path.{_≡_, refl, sym, ap, _∙_}
-use mathlib.Core.Bool.{Bool, true, false, _||_}
+use mathlib.Core.Path.{_≡_, sym, ap, _∙_}
+use mathlib.Core.Bool.{Bool, true, false}
 use mathlib.Core.Logic.{⊎-elim}
-use Prim.Native.Nat.{ℕ, zero, suc, _+_, _-_, _*_, _/_, _%_, _^_, _≤_, _<_}
+use Prim.Native.Nat.{ℕ, suc, _+_, _-_, _*_, _/_, _%_, _^_, _≤_, _<_}
 use native.Mathlib.Omega.{arith}
-use native.Mathlib.Nat.{mod-eq-of-lt, mul-le-mul, mod-lt}
+use native.Mathlib.Nat.{mul-le-mul, mod-lt}
 use lib.IntN.{ℤ, pos, negsuc, negℤ, _+ℤ_, _-ℤ_, _*ℤ_, subℕ}
 use lib.Signed.{mag}
-use lib.Dec.{lit<, lit≤}
+use lib.Dec.{lit<}
 use lib.Pow.{mod-mod-pow}
 use borrow.Author.Tests.{le-ltb, lt-leb, le-leb}
 use Rattle.bits.specs.Cases.{if_then_else_, _≤?_}
@@ -17,7 +17,6 @@ use Rattle.bits.specs.Laws.Order.{split}
 use Rattle.bits.specs.Laws.Diff.{diff-lt, diff-pos, neg-pos, diff-sub}
 use Rattle.bits.specs.Laws.Signed.{signed-low, signed-high, outside-diff}
 use Rattle.bits.specs.Laws.Wrap.{mod-same, wrap-add, wrap-lt}
-use Rattle.products.specs.declared.Long.{Long}
 use Rattle.products.specs.Products.{_⟦_‥_⟧, longOf, pairOf, stickyOf, totalOf, halfOf}
 use Rattle.products.specs.Duals.{secondOf, dualOf, smuadOf}
 use Rattle.products.specs.Laws.Products.{upper-half}

@@ -1,11 +1,9 @@
 -- The definitions give the rows P9, P10 and P11 of document 01, section 8.
 use mathlib.Core.Path.{_≡_, refl}
-use mathlib.Core.Bool.{Bool, true, false}
+use mathlib.Core.Bool.{true, false}
 use Rattle.bits.specs.Cases.{if_then_else_}
 use Rattle.bits.specs.Integers.{signed, outside}
 use Rattle.alu.specs.Saturation.{clampOf, saturatedOf, signedSatOf}
-use Rattle.products.specs.declared.Long.{Long}
-use Rattle.products.specs.declared.Sticky.{Sticky}
 use Rattle.products.specs.Products.{longOf, stickyOf, totalOf, halfOf, umaalOf, heldOf, qaddOf, doubledOf, qdaddOf}
 use Rattle.products.specs.Duals.{secondOf, dualOf, smuadOf}
 
