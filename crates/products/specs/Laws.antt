@@ -1,0 +1,5 @@
+-- Laws that proofs cite; nothing here has to be believed.
+pub mod Products
+pub mod Duals
+pub mod Manual
+pub mod Rows
