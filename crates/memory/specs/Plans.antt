@@ -2,7 +2,7 @@
 use mathlib.Core.Bool.{Bool}
 use mathlib.Core.List.{List, [], _∷_}
 use Prim.Native.Nat.{ℕ, zero, suc, _+_, _%_, _^_}
-use lib.ListN.{getD, drop}
+use lib.ListN.{length, getD, drop}
 use lib.Seq.{sets}
 use Rattle.bits.specs.Cases.{if_then_else_, _<?_}
 use Rattle.memory.specs.Bytes.{wordAt, putWord}
@@ -44,3 +44,14 @@ putWords l (a ∷ rest) values = putWords (putWord l a (getD values 0 0)) rest (
 -- memory with the first `count` values as words from `at` on, in transfer order
 unfoldable pub storedOf : List ℕ → ℕ → ℕ → List ℕ → List ℕ
 storedOf l at count values = putWords l (accessesOf at 4 count) values
+
+-- a plan is tested whole before anything moves: the answer, and what stands afterwards
+unfoldable pub performedOf : {A : Type 0} → Found → A → A → Found × A
+performedOf Inside before after = (Inside, after)
+performedOf (Outside a) before after = (Outside a, before)
+
+abbrev pub loadOf : List ℕ → ℕ → ℕ → List ℕ → Found × List ℕ
+loadOf l at count values = performedOf (outsideOf (length l) at 4 count) values (loadedOf l at count values)
+
+abbrev pub storeOf : List ℕ → ℕ → ℕ → List ℕ → Found × List ℕ
+storeOf l at count values = performedOf (outsideOf (length l) at 4 count) l (storedOf l at count values)

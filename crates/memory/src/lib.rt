@@ -3,7 +3,7 @@ ghost use mathlib.Core.Path.{_≡_};
 ghost use Prim.Native.Nat.{_+_, _*_, _^_, _<_, _≤_};
 ghost use lib.ListN.{length};
 ghost use Rattle.memory.specs.Bytes.{byteAt, halfAt, wordAt, putByte, putHalf, putWord, Width, readOf, writtenOf};
-ghost use Rattle.memory.specs.Plans.{reachesOut, outsideOf, loadedOf, storedOf};
+ghost use Rattle.memory.specs.Plans.{reachesOut, outsideOf, loadedOf, storedOf, loadOf, storeOf};
 
 // Where the accesses of a plan lie: all inside, or the address of the first that has a byte outside.
 pub enum Found {
@@ -152,5 +152,35 @@ pub fn store_words(mem: &mut [u8], at: u32, count: u32, values: &[u32; 16])
         write32(mem, a, values[i as usize]);
         a = bits::wrapping_add(a, 4);
         i += 1;
+    }
+}
+
+// A load of words performed: tested whole, and moved only where every access lies inside.
+pub fn perform_load(mem: &[u8], at: u32, count: u32, values: &mut [u32; 16]) -> Found
+    requires { ⌜ count ≤ 16 ⌝ }
+    ensures { λ r. ⌜ (r, now (values .exit)) ≡ loadOf (now (mem .entry)) at count (now (values .entry)) ⌝ }
+{
+    let found = find_outside(mem.len(), at, 4, count);
+    match found {
+        Found::Inside => {
+            load_words(mem, at, count, values);
+            Found::Inside
+        }
+        Found::Outside(a) => Found::Outside(a),
+    }
+}
+
+// A store of words performed, in the same way.
+pub fn perform_store(mem: &mut [u8], at: u32, count: u32, values: &[u32; 16]) -> Found
+    requires { ⌜ count ≤ 16 ⌝ }
+    ensures { λ r. ⌜ (r, now (mem .exit)) ≡ storeOf (now (mem .entry)) at count (now (values .entry)) ⌝ }
+{
+    let found = find_outside(mem.len(), at, 4, count);
+    match found {
+        Found::Inside => {
+            store_words(mem, at, count, values);
+            Found::Inside
+        }
+        Found::Outside(a) => Found::Outside(a),
     }
 }

@@ -11,7 +11,7 @@ use lib.Seq.{sets, sets-eq, getD-drop, drop-drop}
 use borrow.Author.Tests.{ltb-true, ltb-false, lt-ltb, le-ltb}
 use Rattle.bits.specs.Cases.{if_then_else_, if-yes, if-no}
 use Rattle.memory.specs.Bytes.{wordAt, putWord}
-use Rattle.memory.specs.Plans.{accessesOf, reachesOut, firstOut, outsideOf, wordsAt, loadedOf, putWords, storedOf}
+use Rattle.memory.specs.Plans.{accessesOf, reachesOut, firstOut, outsideOf, wordsAt, loadedOf, putWords, storedOf, performedOf}
 use Rattle.memory.specs.declared.Found.{Found}
 use Rattle.memory.specs.declared.Found.the-variants.{Inside, Outside}
 use Rattle.memory.specs.Laws.Bytes.{Clear, Bytes, length-word, byte-word, bytes-word}
@@ -116,7 +116,15 @@ module _ (len at width n : ℕ) where
   pub inside-next : 0 < n → outsideOf len at width n ≡ Inside → (at + width ≤ len) × (outsideOf len ((at + width) % 2 ^ 32) width (n - 1) ≡ Inside)
   inside-next h e = first-inside len width at _ (rw (accesses-next at width n h) at e)
 
--- one access alone
+-- one access alone, and two
+pub inside-one : (len at width : ℕ) → outsideOf len at width 1 ≡ Inside → at + width ≤ len
+inside-one len at width h = inside-next len at width 1 (omega arith) h .0
+
+pub inside-two : (len at width : ℕ) → outsideOf len at width 2 ≡ Inside → (at + width ≤ len) × ((at + width) % 2 ^ 32 + width ≤ len)
+inside-two len at width h =
+    let n = inside-next len at width 2 (omega arith) h in
+    (n .0, inside-one len ((at + width) % 2 ^ 32) width (n .1))
+
 pub out-one : (len at width : ℕ) → outsideOf len at width 1 ≡ (if reachesOut len at width then Outside at else Inside)
 unfolding firstOut accessesOf
 out-one len at width = refl
@@ -238,3 +246,21 @@ module _ {before : List ℕ} {at count : ℕ} {values l : List ℕ} {a i : ℕ} 
   pub storing-last : count ≤ i → l ≡ storedOf before at count values
   unfolding putWords
   storing-last h = let z : count - i ≤ 0 = omega arith in sym (s .whole ∙ rw (accesses-end a 4 (count - i) z))
+
+-- what a caller learns where a plan was performed, and where it was refused: r is the answer, x what stands afterwards
+module _ {A : Type 0} {r : Found} {x : A} (f : Found) (before after : A) (e : _≡_ {A = Found × A} (r, x) (performedOf f before after)) where
+  pub performed-same : r ≡ f
+  unfolding performedOf
+  performed-same = ap (λ (p : Found × A). p .0) e ∙ go f
+    where
+      go : (f : Found) → performedOf f before after .0 ≡ f
+      go Inside = refl
+      go (Outside a) = refl
+
+  pub performed-inside : r ≡ Inside → x ≡ after
+  unfolding performedOf
+  performed-inside h = ap (λ (p : Found × A). p .1) e ∙ rw (sym performed-same ∙ h)
+
+  pub performed-outside : (a : ℕ) → r ≡ Outside a → x ≡ before
+  unfolding performedOf
+  performed-outside a h = ap (λ (p : Found × A). p .1) e ∙ rw (sym performed-same ∙ h)
