@@ -50,8 +50,8 @@ unfoldable pub performedOf : {A : Type 0} → Found → A → A → Found × A
 performedOf Inside before after = (Inside, after)
 performedOf (Outside a) before after = (Outside a, before)
 
-abbrev pub loadOf : List ℕ → ℕ → ℕ → List ℕ → Found × List ℕ
-loadOf l at count values = performedOf (outsideOf (length l) at 4 count) values (loadedOf l at count values)
+abbrev pub loadPlanOf : List ℕ → ℕ → ℕ → List ℕ → Found × List ℕ
+loadPlanOf l at count values = performedOf (outsideOf (length l) at 4 count) values (loadedOf l at count values)
 
-abbrev pub storeOf : List ℕ → ℕ → ℕ → List ℕ → Found × List ℕ
-storeOf l at count values = performedOf (outsideOf (length l) at 4 count) l (storedOf l at count values)
+abbrev pub storePlanOf : List ℕ → ℕ → ℕ → List ℕ → Found × List ℕ
+storePlanOf l at count values = performedOf (outsideOf (length l) at 4 count) l (storedOf l at count values)

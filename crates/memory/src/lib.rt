@@ -3,7 +3,7 @@ ghost use mathlib.Core.Path.{_≡_};
 ghost use Prim.Native.Nat.{_+_, _*_, _^_, _<_, _≤_};
 ghost use lib.ListN.{length};
 ghost use Rattle.memory.specs.Bytes.{byteAt, halfAt, wordAt, putByte, putHalf, putWord, Width, readOf, writtenOf};
-ghost use Rattle.memory.specs.Plans.{reachesOut, outsideOf, loadedOf, storedOf, loadOf, storeOf};
+ghost use Rattle.memory.specs.Plans.{reachesOut, outsideOf, loadedOf, storedOf, loadPlanOf, storePlanOf};
 
 // Where the accesses of a plan lie: all inside, or the address of the first that has a byte outside.
 pub enum Found {
@@ -158,7 +158,7 @@ pub fn store_words(mem: &mut [u8], at: u32, count: u32, values: &[u32; 16])
 // A load of words performed: tested whole, and moved only where every access lies inside.
 pub fn perform_load(mem: &[u8], at: u32, count: u32, values: &mut [u32; 16]) -> Found
     requires { ⌜ count ≤ 16 ⌝ }
-    ensures { λ r. ⌜ (r, now (values .exit)) ≡ loadOf (now (mem .entry)) at count (now (values .entry)) ⌝ }
+    ensures { λ r. ⌜ (r, now (values .exit)) ≡ loadPlanOf (now (mem .entry)) at count (now (values .entry)) ⌝ }
 {
     let found = find_outside(mem.len(), at, 4, count);
     match found {
@@ -173,7 +173,7 @@ pub fn perform_load(mem: &[u8], at: u32, count: u32, values: &mut [u32; 16]) -> 
 // A store of words performed, in the same way.
 pub fn perform_store(mem: &mut [u8], at: u32, count: u32, values: &[u32; 16]) -> Found
     requires { ⌜ count ≤ 16 ⌝ }
-    ensures { λ r. ⌜ (r, now (mem .exit)) ≡ storeOf (now (mem .entry)) at count (now (values .entry)) ⌝ }
+    ensures { λ r. ⌜ (r, now (mem .exit)) ≡ storePlanOf (now (mem .entry)) at count (now (values .entry)) ⌝ }
 {
     let found = find_outside(mem.len(), at, 4, count);
     match found {

@@ -1,5 +1,5 @@
 -- Reads after writes, untouched bytes, lengths and bounds, for every width at once.
-use mathlib.Core.Path.{_≡_, refl, sym, ap, _∙_}
+use mathlib.Core.Path.{_≡_, refl, _∙_}
 use mathlib.Core.Bool.{Bool, true, false}
 use mathlib.Core.Logic.{_⊎_, inl, inr, ⊎-elim}
 use mathlib.Core.List.{List}
@@ -12,7 +12,7 @@ use lib.Seq.{getD-set-same, getD-set-other, set-out}
 use borrow.Author.Tests.{eqb-true, eqb-false}
 use Rattle.bits.specs.Cases.{if_then_else_}
 use Rattle.bits.specs.Laws.Order.{split}
-use Rattle.memory.specs.Bytes.{byteAt, halfAt, wordAt, putByte, putHalf, putWord, Width, readOf, writtenOf}
+use Rattle.memory.specs.Bytes.{halfAt, wordAt, putHalf, putWord, Width, readOf, writtenOf}
 
 -- the number in n bytes and the n low bytes of a number, for any n
 unfoldable numberAt : List ℕ → ℕ → ℕ → ℕ

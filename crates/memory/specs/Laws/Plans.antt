@@ -8,6 +8,7 @@ use native.Mathlib.Numerals.{add-one}
 use native.Mathlib.Nat.{mod-eq-of-lt, mod-add-mod, mul-suc}
 use lib.ListN.{length, getD, set, drop}
 use lib.Seq.{sets, sets-eq, getD-drop, drop-drop}
+use borrow.Author.Needs.{needs}
 use borrow.Author.Tests.{ltb-true, ltb-false, lt-ltb, le-ltb}
 use Rattle.bits.specs.Cases.{if_then_else_, if-yes, if-no}
 use Rattle.memory.specs.Bytes.{wordAt, putWord}
@@ -128,6 +129,12 @@ inside-two len at width h =
 pub out-one : (len at width : ℕ) → outsideOf len at width 1 ≡ (if reachesOut len at width then Outside at else Inside)
 unfolding firstOut accessesOf
 out-one len at width = refl
+
+-- what a caller knows of an access once `reaches_out` answered false: `search reached` closes what a read or a write requires
+pub told-inside : (len at width : ℕ) (r : Bool) → r ≡ reachesOut len at width → r ≡ false → at + width ≤ len
+told-inside len at width r e h = ltb-false len (at + width) (sym e ∙ h)
+
+pub ruleset reached = (needs, told-inside)
 
 -- a run that lies inside does not wrap: it is the bytes from at to at + width * n
 pub inside-span : (len at width n : ℕ) → len < 2 ^ 32 → outsideOf len at width (suc n) ≡ Inside → at + width * suc n ≤ len
