@@ -10,11 +10,14 @@ use lib.Signed.{mag, shrZ, mag-shr}
 use mir.Val.{toZ, ofZ, SFits}
 use mir.Facts.{toZ-pos, toZ-ofZ}
 use mir.Syntax.{w64}
+use Rattle.bits.specs.Fields.{_⟨_‥_⟩}
+use Rattle.bits.specs.Words.{lanesOf}
 use Rattle.bits.specs.Integers.{signed, wrap}
 use Rattle.bits.specs.Laws.Diff.{pos-sub}
 use Rattle.bits.specs.Laws.Signed.{signed-low, signed-high}
 use Rattle.bits.specs.Laws.Range.{Within, Is, in-signed, is-nat, read64}
 use Rattle.bits.specs.Laws.Wrap.{mod-same}
+use Rattle.lanes.specs.Parallel.{lowOf, highOf}
 
 complement : (h d l m : ℕ) → l < m → (h + d) * m + (m - 1) - (h * m + l) ≡ m - 1 - l + d * m
 complement h d l m e = omega arith
@@ -64,3 +67,10 @@ read-within {z} {m} n h l k = let e : m < 2 ^ 63 = omega arith in rw (read64 h e
 -- belongs in bits
 pub is-word : (n : ℕ) → n < 2 ^ 32 → Is (2 ^ 32) (toZ w64 n) (pos n)
 is-word n h = is-nat n (2 ^ 32) (omega arith) (lit< tt)
+
+-- the halves of a word's four bytes are its fields
+pub low-field : (w : ℕ) → lowOf (lanesOf w) ≡ w ⟨ 15 ‥ 0 ⟩
+low-field w = omega arith
+
+pub high-field : (w : ℕ) → highOf (lanesOf w) ≡ w ⟨ 31 ‥ 16 ⟩
+high-field w = omega arith
