@@ -36,7 +36,7 @@ wrappedOf k from z = record { value = wrap k z; ge = leZ (pos from) z }
 abbrev pub keptOf : ℕ → Saturated → Lane
 keptOf k s = record { value = s .value % 2 ^ k; ge = false }
 
--- bits k down to 1 of the exact result, its half rounded down; no GE
+-- sum[k:1] of the exact result, which is its half rounded down; no GE
 abbrev pub halvedOf : ℕ → ℤ → Lane
 halvedOf k z = record { value = wrap k (shrZ z 2); ge = false }
 
@@ -44,7 +44,7 @@ halvedOf k z = record { value = wrap k (shrZ z 2); ge = false }
 unfoldable pub unsignedFrom : ℕ → Bool → ℕ
 unsignedFrom k sub = if sub then 0 else 2 ^ k
 
--- a lane of k bits, by the prefix: S, Q, SH, U, UQ, UH
+-- a lane of k bits, by the prefix: S (A4.1.62-64, 93-95), Q (47-49, 53-55), SH (68-73), U (118-120, 140-142), UQ (130-135), UH (121-126)
 unfoldable pub laneOf : Variant → ℕ → Bool → ℕ → ℕ → Lane
 laneOf Signed k sub x y = wrappedOf k 0 (signedOf k sub x y)
 laneOf Saturating k sub x y = keptOf k (signedSatOf k (signedOf k sub x y))
@@ -100,17 +100,18 @@ bytewiseOf v sub n m =
     (laneOf v 8 sub (getD n 2 0) (getD m 2 0))
     (laneOf v 8 sub (getD n 3 0) (getD m 3 0))
 
-abbrev pub addOf : Variant → ℕ → ℕ → Lane
-addOf v x y = laneOf v 16 false x y
+-- halfword lanes
+abbrev pub sumOf : Variant → ℕ → ℕ → Lane
+sumOf v x y = laneOf v 16 false x y
 
-abbrev pub subOf : Variant → ℕ → ℕ → Lane
-subOf v x y = laneOf v 16 true x y
+abbrev pub differenceOf : Variant → ℕ → ℕ → Lane
+differenceOf v x y = laneOf v 16 true x y
 
--- Rn and Rm as bytes, for each prefix: A4.1.62 SADD16, A4.1.64 SADDSUBX, A4.1.95 SSUBADDX, A4.1.93 SSUB16, A4.1.63 SADD8, A4.1.94 SSUB8
+-- n and m are the bytes of Rn and Rm; for the prefix S: A4.1.62 SADD16, A4.1.64 SADDSUBX, A4.1.95 SSUBADDX, A4.1.93 SSUB16, A4.1.63 SADD8, A4.1.94 SSUB8
 unfoldable pub parallelOf : Variant → Operation → List ℕ → List ℕ → Combined
-parallelOf v Add16 n m = halvesOf v (addOf v (lowOf n) (lowOf m)) (addOf v (highOf n) (highOf m))
-parallelOf v Asx n m = halvesOf v (subOf v (lowOf n) (highOf m)) (addOf v (highOf n) (lowOf m))
-parallelOf v Sax n m = halvesOf v (addOf v (lowOf n) (highOf m)) (subOf v (highOf n) (lowOf m))
-parallelOf v Sub16 n m = halvesOf v (subOf v (lowOf n) (lowOf m)) (subOf v (highOf n) (highOf m))
+parallelOf v Add16 n m = halvesOf v (sumOf v (lowOf n) (lowOf m)) (sumOf v (highOf n) (highOf m))
+parallelOf v Asx n m = halvesOf v (differenceOf v (lowOf n) (highOf m)) (sumOf v (highOf n) (lowOf m))
+parallelOf v Sax n m = halvesOf v (sumOf v (lowOf n) (highOf m)) (differenceOf v (highOf n) (lowOf m))
+parallelOf v Sub16 n m = halvesOf v (differenceOf v (lowOf n) (lowOf m)) (differenceOf v (highOf n) (highOf m))
 parallelOf v Add8 n m = bytewiseOf v false n m
 parallelOf v Sub8 n m = bytewiseOf v true n m
