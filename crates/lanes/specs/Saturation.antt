@@ -1,5 +1,5 @@
 -- SSAT, USAT, SSAT16, USAT16: the width n is the manual's sat_imm, for the signed ones sat_imm + 1.
-use mathlib.Core.Bool.{Bool, _||_}
+use mathlib.Core.Bool.{_||_}
 use Prim.Native.Nat.{ℕ, _+_, _*_, _^_}
 use Rattle.bits.specs.Fields.{_⟨_‥_⟩}
 use Rattle.bits.specs.Integers.{signed}

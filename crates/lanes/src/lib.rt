@@ -1,17 +1,14 @@
 // The arithmetic of the media instructions on numbers and on four byte lanes: parallel sums, selection, packing, extension, saturation.
 ghost use mathlib.Core.Path.{_≡_};
-ghost use mathlib.Core.Bool.{Bool};
 ghost use lib.IntN.{pos, _+ℤ_};
-ghost use Prim.Native.Nat.{_+_, _-_, _*_, _%_, _^_, _<_, _≤_};
+ghost use Prim.Native.Nat.{_+_, _*_, _%_, _^_, _<_, _≤_};
 ghost use Rattle.bits.specs.Cases.{if_then_else_};
-ghost use Rattle.bits.specs.Fields.{bitOf};
 ghost use Rattle.bits.specs.Integers.{signed, wrap};
 ghost use Rattle.bits.specs.Laws.Range.{Within};
-ghost use Rattle.lanes.specs.Parallel.{resultOf, signedOf, unsignedOf, wrappedOf, keptOf, halvedOf, unsignedFrom, laneOf, setsGe, geOf, lowOf, highOf, halvesOf, bytesOf, bytewiseOf, parallelOf};
+ghost use Rattle.lanes.specs.Parallel.{resultOf, signedOf, unsignedOf, wrappedOf, keptOf, halvedOf, unsignedFrom, laneOf, setsGe, geOf, halvesOf, bytesOf, bytewiseOf, parallelOf};
 ghost use Rattle.lanes.specs.Bytes.{selOf, distance, usad8Of, usada8Of};
 ghost use Rattle.lanes.specs.Packing.{pkhbtOf, pkhtbOf, addedHalves, addedOf, extendOf};
 ghost use Rattle.lanes.specs.Saturation.{ssatOf, usatOf, ssat16Of, usat16Of, besideOf};
-ghost use Rattle.alu.specs.Saturation.{signedSatOf, unsignedSatOf};
 
 // The manual's prefixes S, Q, SH, U, UQ, UH.
 pub enum Variant {
@@ -69,6 +66,7 @@ fn wrap_bits(width: u32, z: i64) -> u32
     low_bits(width, bits::wrap_word(z))
 }
 
+// The signed reading of a lane.
 fn read_signed(width: u32, x: u32) -> i64
     requires { ⌜ (0 < width) × (width ≤ 16) × (x < 2 ^ width) ⌝ }
     ensures { λ r. ⌜ (r ≡ signed width x) × Within 4294967296 r ⌝ }
@@ -100,6 +98,7 @@ fn combine_unsigned(sub: bool, x: u32, y: u32) -> i64
     add_or_subtract(sub, x as i64, y as i64)
 }
 
+// The exact result modulo 2^width; GE where it is not below `from`.
 fn wrap_lane(width: u32, z: i64, from: u64) -> Lane
     requires { ⌜ (width ≤ 16) × (from ≤ 2 ^ 16) ⌝ }
     ensures { λ r. ⌜ (r ≡ wrappedOf width from z) × (r .value < 2 ^ width) ⌝ }
@@ -110,6 +109,7 @@ fn wrap_lane(width: u32, z: i64, from: u64) -> Lane
     }
 }
 
+// A saturated result in its lane.
 fn keep_lane(width: u32, kept: alu::Saturated) -> Lane
     requires { ⌜ width ≤ 16 ⌝ }
     ensures { λ r. ⌜ (r ≡ keptOf width kept) × (r .value < 2 ^ width) ⌝ }
@@ -120,6 +120,7 @@ fn keep_lane(width: u32, kept: alu::Saturated) -> Lane
     }
 }
 
+// Half of the exact result, rounded down.
 fn halve_lane(width: u32, z: i64) -> Lane
     requires { ⌜ width ≤ 16 ⌝ }
     ensures { λ r. ⌜ (r ≡ halvedOf width z) × (r .value < 2 ^ width) ⌝ }
@@ -138,6 +139,7 @@ fn unsigned_from(width: u32, sub: bool) -> u64
     if sub { 0 } else { bits::power(width) }
 }
 
+// One lane.
 fn combine(variant: Variant, width: u32, sub: bool, x: u32, y: u32) -> Lane
     requires { ⌜ (0 < width) × (width ≤ 16) × (x < 2 ^ width) × (y < 2 ^ width) ⌝ }
     ensures { λ r. ⌜ (r ≡ laneOf variant width sub x y) × (r .value < 2 ^ width) ⌝ }
@@ -235,6 +237,7 @@ fn bytewise(variant: Variant, sub: bool, n: [u8; 4], m: [u8; 4]) -> Combined
     )
 }
 
+// The low lane of p and q, the high one of s and t.
 fn halfwise(
     variant: Variant,
     sublow: bool,
@@ -276,7 +279,7 @@ fn pick(set: bool, x: u8, y: u8) -> u8
     if set { x } else { y }
 }
 
-// SEL.
+// SEL, of the bytes of Rn and Rm.
 pub fn select(ge: u8, n: [u8; 4], m: [u8; 4]) -> [u8; 4]
     ensures { λ r. ⌜ r ≡ selOf ge n m ⌝ }
 {
@@ -298,6 +301,7 @@ fn absolute_difference(x: u8, y: u8) -> u32
     }
 }
 
+// USAD8, of the bytes of Rm and Rs.
 pub fn usad8(m: [u8; 4], s: [u8; 4]) -> u32
     ensures { λ r. ⌜ (r ≡ usad8Of m s) × (r ≤ 1020) ⌝ }
 {
@@ -307,18 +311,21 @@ pub fn usad8(m: [u8; 4], s: [u8; 4]) -> u32
         + absolute_difference(m[3], s[3])
 }
 
+// USADA8.
 pub fn usada8(m: [u8; 4], s: [u8; 4], n: u32) -> u32
     ensures { λ r. ⌜ r ≡ usada8Of m s n ⌝ }
 {
     bits::wrapping_add(n, usad8(m, s))
 }
 
+// PKHBT, with the shifted Rm.
 pub fn pkhbt(n: u32, m: u32) -> u32
     ensures { λ r. ⌜ r ≡ pkhbtOf n m ⌝ }
 {
     n % 65536 + m / 65536 % 65536 * 65536
 }
 
+// PKHTB, with the shifted Rm.
 pub fn pkhtb(n: u32, m: u32) -> u32
     ensures { λ r. ⌜ r ≡ pkhtbOf n m ⌝ }
 {
@@ -359,7 +366,7 @@ fn add_extended(extension: Extension, n: u32, m: u32) -> u32
     }
 }
 
-// The extensions of m rotated right by 8 times the rotate field, added to n: 0 for those that add to no register.
+// The extensions: m rotated right by 8 times the rotate field; n is 0 for those that add to no register.
 pub fn extend(extension: Extension, n: u32, m: u32, rotate: u32) -> u32
     requires { ⌜ rotate < 4 ⌝ }
     ensures { λ r. ⌜ r ≡ extendOf extension n m rotate ⌝ }
@@ -367,6 +374,7 @@ pub fn extend(extension: Extension, n: u32, m: u32, rotate: u32) -> u32
     add_extended(extension, n, bits::rotate_right(m, 8 * rotate))
 }
 
+// SSAT and USAT, of the shifted operand.
 pub fn ssat(width: u32, x: u32) -> alu::Saturated
     requires { ⌜ (0 < width) × (width ≤ 32) ⌝ }
     ensures { λ r. ⌜ r ≡ ssatOf width x ⌝ }
@@ -381,6 +389,7 @@ pub fn usat(width: u32, x: u32) -> alu::Saturated
     alu::unsigned_saturate(bits::signed_word(x), width)
 }
 
+// Two halves side by side, saturated if either is.
 fn beside(low: alu::Saturated, high: alu::Saturated) -> alu::Saturated
     ensures { λ r. ⌜ r ≡ besideOf low high ⌝ }
 {
@@ -390,6 +399,7 @@ fn beside(low: alu::Saturated, high: alu::Saturated) -> alu::Saturated
     }
 }
 
+// SSAT16 and USAT16.
 pub fn ssat16(width: u32, x: u32) -> alu::Saturated
     requires { ⌜ (0 < width) × (width ≤ 16) ⌝ }
     ensures { λ r. ⌜ r ≡ ssat16Of width x ⌝ }
