@@ -7,7 +7,7 @@ use Rattle.bits.specs.Cases.{if_then_else_, _==_}
 use Rattle.bits.specs.Fields.{_⟨_⟩}
 use Rattle.alu.specs.Sums.{negative}
 use Rattle.cpu.specs.declared.Answer.{Answer}
-use Rattle.cpu.specs.declared.Answer.the-variants.{Done, Supervisor}
+use Rattle.cpu.specs.declared.Answer.the-variants.{Done, Supervisor, Undefined}
 use Rattle.cpu.specs.declared.Kind.{Kind}
 use Rattle.cpu.specs.declared.Kind.the-variants.{Nothing, Flags, Sticky, Lanes, Exchange, Tagged, Untagged, Return, Moves, Block, Call, Stop}
 use Rattle.cpu.specs.declared.Outcome.{Outcome}
@@ -73,6 +73,14 @@ advanced regs = set regs 15 ((getD regs 15 0 + (2 ^ 32 - 4)) % 2 ^ 32)
 -- a branch in ARM state
 abbrev pub branched : List ℕ → ℕ → List ℕ
 branched regs to = set regs 15 (to / 4 * 4)
+
+-- the instruction's own address
+abbrev pub ownOf : List ℕ → ℕ
+ownOf regs = (getD regs 15 0 + (2 ^ 32 - 8)) % 2 ^ 32
+
+-- an undefined code: the registers stay as they came; D9
+abbrev pub undefinedOf : List ℕ → ℕ → Outcome × List ℕ
+undefinedOf regs op = (stops (Undefined (ownOf regs) op), regs)
 
 -- nothing but the next instruction
 abbrev pub doneOf : List ℕ → Outcome × List ℕ

@@ -2,7 +2,7 @@
 ghost use mathlib.Core.Path.{_≡_};
 ghost use Prim.Native.Nat.{_<_};
 ghost use Rattle.cpu.specs.Answers.{reported, badOf};
-ghost use Rattle.cpu.specs.Outcomes.{leaves, nothing, flags, flagsOf, sticky, lanes, exchange, tagged, untagged, returns, moves, block, calls, stops, doneOf, putOf, jumpedOf, landedOf, exchangedOf};
+ghost use Rattle.cpu.specs.Outcomes.{leaves, nothing, flags, flagsOf, sticky, lanes, exchange, tagged, untagged, returns, moves, block, calls, stops, undefinedOf, doneOf, putOf, jumpedOf, landedOf, exchangedOf};
 use psr::Status;
 
 // The exclusive tag: the address of the latest load-exclusive, or none.
@@ -369,6 +369,14 @@ pub fn stop_with(answer: Answer) -> Outcome
     ensures { λ r. ⌜ r ≡ stops answer ⌝ }
 {
     leave(Kind::Stop, false, false, false, false, false, 0, 0, answer)
+}
+
+// An undefined code: the registers stay as they came.
+pub fn refuse(regs: &mut [u32; 16], op: u32) -> Outcome
+    ensures { λ r. ⌜ (r, now (regs .exit)) ≡ undefinedOf (now (regs .entry)) op ⌝ }
+{
+    let at = bits::wrapping_sub(regs[15], 8);
+    stop_with(Answer::Undefined(at, op))
 }
 
 // The next instruction.
