@@ -1,0 +1,43 @@
+-- The second operand in the code's order of tests.
+use mathlib.Core.Path.{_≡_, refl}
+use mathlib.Core.Bool.{Bool, true, false, _&&_}
+use mathlib.Core.List.{List}
+use Prim.Native.Nat.{ℕ, _/_, _%_, _^_}
+use native.Mathlib.Omega.{arith}
+use lib.ListN.{getD}
+use borrow.Author.Tests.{ne-eqb}
+use Rattle.bits.specs.Cases.{if_then_else_}
+use Rattle.bits.specs.Fields.{_⟨_⟩, _⟨_‥_⟩}
+use Rattle.shifter.specs.declared.Operand.{Operand}
+use Rattle.shifter.specs.Shifts.{operand, typeOf, byImmediateOf, byRegisterOf}
+use Rattle.dataproc.specs.Dataproc.{readOf, operandOf}
+
+and-false : (b : Bool) → (b && false) ≡ false
+and-false true = refl
+and-false false = refl
+
+pub read-early : (regs : List ℕ) (r : ℕ) → readOf regs r false ≡ getD regs r 0
+unfolding readOf if_then_else_
+read-early regs r = rw and-false
+
+-- a register shifted by a register, both read late
+abbrev pub lateOf : List ℕ → ℕ → Bool → Operand
+lateOf regs op c =
+    byRegisterOf (typeOf (op ⟨ 6 ‥ 5 ⟩)) (readOf regs (op ⟨ 3 ‥ 0 ⟩) true) (readOf regs (op ⟨ 11 ‥ 8 ⟩) true ⟨ 7 ‥ 0 ⟩) c
+
+module _ (regs : List ℕ) (op : ℕ) (c : Bool) (register : op / 2 ^ 25 % 2 ≡ 1 → ⊥) where
+  pub by-immediate : (op / 2 ^ 4 % 2 ≡ 1 → ⊥) → byImmediateOf (typeOf (op ⟨ 6 ‥ 5 ⟩)) (getD regs (op ⟨ 3 ‥ 0 ⟩) 0) (op ⟨ 11 ‥ 7 ⟩) c ≡ operandOf regs op c
+  unfolding operandOf if_then_else_
+  by-immediate h = rw (ne-eqb (op / 2 ^ 25 % 2) 1 register, ne-eqb (op / 2 ^ 4 % 2) 1 h, read-early regs (op % 16))
+
+  pub by-register : op / 2 ^ 4 % 2 ≡ 1 → lateOf regs op c ≡ operandOf regs op c
+  unfolding operandOf if_then_else_
+  by-register h = rw (ne-eqb (op / 2 ^ 25 % 2) 1 register, h)
+
+  -- a register shifted left by 0
+  pub plain : op / 16 % 256 ≡ 0 → operand (getD regs (op ⟨ 3 ‥ 0 ⟩) 0) c ≡ operandOf regs op c
+  unfolding typeOf byImmediateOf if_then_else_
+  plain h =
+      let t : op / 32 % 4 ≡ 0 = omega arith in
+      let n : op / 128 % 32 ≡ 0 = omega arith in
+      rw (t, n) at (by-immediate (λ e. omega arith))

@@ -1,0 +1,2 @@
+pub mod Dataproc
+pub mod Laws
