@@ -1,5 +1,5 @@
 -- MRS, MSR and CPS (DDI 0100I, A4.1): moves of status words, on the whole machine; r15 in its registers is A + 8.
-use mathlib.Core.Bool.{Bool, true, false, _&&_}
+use mathlib.Core.Bool.{true, false, _&&_}
 use Prim.Native.Nat.{ℕ}
 use lib.ListN.{getD, set}
 use Rattle.bits.specs.Cases.{if_then_else_, _==_}
