@@ -32,4 +32,10 @@ pub if-no : {A : Type 0} (t : Bool) (a b : A) → t ≡ false → (if t then a e
 unfolding if_then_else_
 if-no t a b e = rw e
 
+-- what holds of both values holds of the choice
+pub if-both : {A : Type 0} (P : A → Type 0) (t : Bool) {a b : A} → P a → P b → P (if t then a else b)
+unfolding if_then_else_
+if-both P true p q = p
+if-both P false p q = q
+
 pub ruleset cases = (needs, if-yes, if-no, eq-eqb, ne-eqb, le-leb, lt-leb, lt-ltb, le-ltb)

@@ -1,4 +1,3 @@
 -- Laws that proofs cite; nothing here has to be believed.
 pub mod Operands
 pub mod Links
-pub mod Kinds

@@ -1,17 +1,13 @@
--- Instructions that answer the host, and those that do nothing or little: SWI, BKPT, undefined codes, coprocessors, CLREX.
+-- Instructions that answer the host, and those that do nothing or little: SWI, BKPT, coprocessors, CLREX.
 use mathlib.Core.Bool.{_||_}
 use mathlib.Core.List.{List}
 use Prim.Native.Nat.{ℕ, _+_, _-_, _*_, _%_, _^_}
 use lib.ListN.{getD}
 use Rattle.bits.specs.Cases.{if_then_else_, _==_}
 use Rattle.bits.specs.Fields.{_⟨_‥_⟩}
-use Rattle.cpu.specs.declared.Answer.the-variants.{Undefined, Breakpoint, Coprocessor}
+use Rattle.cpu.specs.declared.Answer.the-variants.{Breakpoint, Coprocessor}
 use Rattle.cpu.specs.declared.Outcome.{Outcome}
-use Rattle.cpu.specs.Outcomes.{calls, stops, untagged, branched, advanced, doneOf}
-
--- the instruction's own address: r15 is A + 8
-abbrev pub ownOf : List ℕ → ℕ
-ownOf regs = (getD regs 15 0 + (2 ^ 32 - 8)) % 2 ^ 32
+use Rattle.cpu.specs.Outcomes.{calls, stops, untagged, branched, advanced, ownOf, doneOf}
 
 -- A4.1.107 SWI; D9: the host answers, and r15 is A + 4 with its low two bits clear
 unfoldable pub swiOf : List ℕ → ℕ → Outcome × List ℕ
@@ -20,10 +16,6 @@ swiOf regs op = (calls (op ⟨ 23 ‥ 0 ⟩), branched regs ((getD regs 15 0 + (
 -- A4.1.7 BKPT, with its number of 16 bits; D9, D4
 unfoldable pub bkptOf : List ℕ → ℕ → Outcome × List ℕ
 bkptOf regs op = (stops (Breakpoint (ownOf regs) (op ⟨ 19 ‥ 8 ⟩ * 16 + op ⟨ 3 ‥ 0 ⟩)), regs)
-
--- D9: an undefined code answers the host
-unfoldable pub undefinedOf : List ℕ → ℕ → Outcome × List ℕ
-undefinedOf regs op = (stops (Undefined (ownOf regs) op), regs)
 
 -- document 01, section 2: answer 4 where the Rust enters its coprocessors
 unfoldable pub coprocessorOf : List ℕ → ℕ → Outcome × List ℕ

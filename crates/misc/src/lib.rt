@@ -1,7 +1,7 @@
 // Branches, CLZ, and answers to the host.
 ghost use mathlib.Core.Path.{_≡_};
 ghost use Rattle.misc.specs.Branches.{linked, targetOf, branchOf, branchExchangeOf, branchLinkExchangeOf, clzOf};
-ghost use Rattle.misc.specs.Stops.{swiOf, bkptOf, undefinedOf, coprocessorOf, coprocessorMoveOf, clrexOf};
+ghost use Rattle.misc.specs.Stops.{swiOf, bkptOf, coprocessorOf, coprocessorMoveOf, clrexOf};
 use cpu::Answer;
 use cpu::Outcome;
 
@@ -75,13 +75,6 @@ pub fn breakpoint(regs: &mut [u32; 16], op: u32) -> Outcome
 {
     let at = bits::wrapping_sub(regs[15], 8);
     cpu::stop_with(Answer::Breakpoint(at, op / 256 % 4096 * 16 + op % 16))
-}
-
-pub fn undefined(regs: &mut [u32; 16], op: u32) -> Outcome
-    ensures { λ r. ⌜ (r, now (regs .exit)) ≡ undefinedOf (now (regs .entry)) op ⌝ }
-{
-    let at = bits::wrapping_sub(regs[15], 8);
-    cpu::stop_with(Answer::Undefined(at, op))
 }
 
 pub fn coprocessor(regs: &mut [u32; 16], op: u32) -> Outcome
