@@ -1,2 +1,1 @@
 pub mod Multiply
-pub mod Laws
