@@ -1,5 +1,5 @@
 -- What a call answers: document 01's numbers and values (section 2), and the state that earns answer 8.
-use mathlib.Core.Bool.{Bool, false, _||_}
+use mathlib.Core.Bool.{Bool, true, false, not, _||_}
 use Prim.Native.Nat.{ℕ}
 use lib.ListN.{getD}
 use Rattle.bits.specs.Cases.{_<?_}
@@ -26,6 +26,38 @@ reported BadState = report 8 0 0
 reported TooLong = report 9 0 0
 reported Timeout = report 10 0 0
 reported (TransferForm opcode) = report 11 opcode 0
+
+-- answers 0 and 1; every other answer refuses, and changes nothing
+abbrev pub isDone : Answer → Bool
+isDone Done = true
+isDone (Supervisor n) = false
+isDone (Undefined a o) = false
+isDone (Breakpoint a n) = false
+isDone (Coprocessor o) = false
+isDone Thumb = false
+isDone (Fetch a) = false
+isDone (Bus a) = false
+isDone BadState = false
+isDone TooLong = false
+isDone Timeout = false
+isDone (TransferForm o) = false
+
+abbrev pub isCall : Answer → Bool
+isCall Done = false
+isCall (Supervisor n) = true
+isCall (Undefined a o) = false
+isCall (Breakpoint a n) = false
+isCall (Coprocessor o) = false
+isCall Thumb = false
+isCall (Fetch a) = false
+isCall (Bus a) = false
+isCall BadState = false
+isCall TooLong = false
+isCall Timeout = false
+isCall (TransferForm o) = false
+
+abbrev pub refuses : Answer → Bool
+refuses answer = not (isDone answer || isCall answer)
 
 -- what stands past the end of a list of records
 abbrev pub noStatus : Status

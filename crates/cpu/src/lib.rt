@@ -1,7 +1,7 @@
 // The machine, its answers, and what a family of instructions leaves to do.
 ghost use mathlib.Core.Path.{_≡_};
 ghost use Prim.Native.Nat.{_<_};
-ghost use Rattle.cpu.specs.Answers.{reported, badOf};
+ghost use Rattle.cpu.specs.Answers.{reported, isDone, isCall, badOf};
 ghost use Rattle.cpu.specs.Outcomes.{leaves, nothing, flags, flagsOf, sticky, lanes, exchange, tagged, untagged, returns, moves, block, calls, stops, undefinedOf, doneOf, putOf, jumpedOf, landedOf, exchangedOf};
 use psr::Status;
 
@@ -140,6 +140,44 @@ pub fn report_answer(answer: Answer) -> Report
             first: opcode,
             second: 0,
         },
+    }
+}
+
+pub fn is_done(answer: Answer) -> bool
+    ensures { λ r. ⌜ r ≡ isDone answer ⌝ }
+{
+    match answer {
+        Answer::Done => true,
+        Answer::Supervisor(_) => false,
+        Answer::Undefined(_, _) => false,
+        Answer::Breakpoint(_, _) => false,
+        Answer::Coprocessor(_) => false,
+        Answer::Thumb => false,
+        Answer::Fetch(_) => false,
+        Answer::Bus(_) => false,
+        Answer::BadState => false,
+        Answer::TooLong => false,
+        Answer::Timeout => false,
+        Answer::TransferForm(_) => false,
+    }
+}
+
+pub fn is_call(answer: Answer) -> bool
+    ensures { λ r. ⌜ r ≡ isCall answer ⌝ }
+{
+    match answer {
+        Answer::Done => false,
+        Answer::Supervisor(_) => true,
+        Answer::Undefined(_, _) => false,
+        Answer::Breakpoint(_, _) => false,
+        Answer::Coprocessor(_) => false,
+        Answer::Thumb => false,
+        Answer::Fetch(_) => false,
+        Answer::Bus(_) => false,
+        Answer::BadState => false,
+        Answer::TooLong => false,
+        Answer::Timeout => false,
+        Answer::TransferForm(_) => false,
     }
 }
 

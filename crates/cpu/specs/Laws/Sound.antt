@@ -6,26 +6,11 @@ use Prim.Native.Nat.{ℕ, _≤_}
 use lib.Dec.{lit≤}
 use Rattle.bits.specs.Cases.{if_then_else_, if-both}
 use Rattle.cpu.specs.declared.Answer.{Answer}
-use Rattle.cpu.specs.declared.Answer.the-variants.{Done, Supervisor, Undefined, Breakpoint, Coprocessor, Thumb, Fetch, Bus, BadState, TooLong, Timeout, TransferForm}
 use Rattle.cpu.specs.declared.Kind.{Kind}
 use Rattle.cpu.specs.declared.Kind.the-variants.{Nothing, Flags, Sticky, Lanes, Exchange, Tagged, Untagged, Return, Moves, Block, Call, Stop}
 use Rattle.cpu.specs.declared.Outcome.{Outcome}
+use Rattle.cpu.specs.Answers.{refuses}
 use Rattle.cpu.specs.Outcomes.{nothing, sticky, doneOf, putOf, landedOf, jumpedOf, exchangedOf, undefinedOf, stops}
-
--- the answers of a step that changes nothing
-abbrev pub refuses : Answer → Bool
-refuses Done = false
-refuses (Supervisor n) = false
-refuses (Undefined a o) = true
-refuses (Breakpoint a n) = true
-refuses (Coprocessor o) = true
-refuses Thumb = true
-refuses (Fetch a) = true
-refuses (Bus a) = true
-refuses BadState = true
-refuses TooLong = true
-refuses Timeout = true
-refuses (TransferForm o) = true
 
 abbrev pub goesOn : Kind → Bool
 goesOn Nothing = true
