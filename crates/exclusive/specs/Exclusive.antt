@@ -38,42 +38,44 @@ widthOf op = if op ⟨ 22 ‥ 21 ⟩ == 2 then 1 else if op ⟨ 22 ‥ 21 ⟩ ==
 abbrev pub secondOf : List ℕ → ℕ → ℕ
 secondOf regs op = (baseOf regs op + 4) % 2 ^ 32
 
--- the registers with a value in Rd, r15 by a branch, and the next instruction
-abbrev pub givenOf : List ℕ → ℕ → ℕ → List ℕ
-givenOf regs rd value = landedOf regs rd value .1
+-- a value in Rd, r15 by a branch, and the tag at the address
+abbrev pub markedOf : List ℕ → ℕ → ℕ → ℕ → Outcome × List ℕ
+markedOf regs rd value at = (tagged at, landedOf regs rd value .1)
 
--- A4.1.27 LDREX; DDI 0406C, LDREXB and LDREXH: the tag becomes the address
+-- A4.1.27 LDREX; DDI 0406C, LDREXB and LDREXH
 unfoldable pub ldrexOf : List ℕ → ℕ → List ℕ → Outcome × List ℕ × List ℕ
 ldrexOf regs op l =
     guardedOf (outsideOf (length l) (baseOf regs op) (widthOf op) 1) regs l
-    (tagged (baseOf regs op), givenOf regs (op ⟨ 15 ‥ 12 ⟩) (readOf l (baseOf regs op) (widthOf op)), l)
+    (beside (markedOf regs (op ⟨ 15 ‥ 12 ⟩) (readOf l (baseOf regs op) (widthOf op)) (baseOf regs op)) l)
 
 -- DDI 0406C, LDREXD: r15 has no partner; the first register is written as it is
 unfoldable pub ldrexdOf : List ℕ → ℕ → List ℕ → Outcome × List ℕ × List ℕ
 ldrexdOf regs op l =
     if op ⟨ 15 ‥ 12 ⟩ == 15 then beside (undefinedOf regs op) l
     else guardedOf (outsideOf (length l) (baseOf regs op) 4 2) regs l
-    (tagged (baseOf regs op), givenOf (set regs (op ⟨ 15 ‥ 12 ⟩) (wordAt l (baseOf regs op))) (op ⟨ 15 ‥ 12 ⟩ + 1) (wordAt l (secondOf regs op)), l)
+    (beside
+    (markedOf (set regs (op ⟨ 15 ‥ 12 ⟩) (wordAt l (baseOf regs op))) (op ⟨ 15 ‥ 12 ⟩ + 1) (wordAt l (secondOf regs op)) (baseOf regs op))
+    l)
 
 -- a store succeeds exactly when there is a tag and it is the address; D5: the width of the load is not compared
 abbrev pub succeeds : List ℕ → ℕ → Bool → ℕ → Bool
 succeeds regs op present tag = present && (tag == baseOf regs op)
 
--- status 0, and the tag goes
-abbrev pub succeededOf : List ℕ → ℕ → List ℕ → Outcome × List ℕ × List ℕ
-succeededOf regs op l = (untagged, givenOf regs (op ⟨ 15 ‥ 12 ⟩) 0, l)
+-- status 0 in Rd, and the tag goes
+abbrev pub succeededOf : List ℕ → ℕ → Outcome × List ℕ
+succeededOf regs op = (untagged, landedOf regs (op ⟨ 15 ‥ 12 ⟩) 0 .1)
 
--- status 1, with no access; D5: the tag stays
-abbrev pub failedOf : List ℕ → ℕ → List ℕ → Outcome × List ℕ × List ℕ
-failedOf regs op l = beside (landedOf regs (op ⟨ 15 ‥ 12 ⟩) 1) l
+-- status 1 in Rd, with no access; D5: the tag stays
+abbrev pub failedOf : List ℕ → ℕ → Outcome × List ℕ
+failedOf regs op = landedOf regs (op ⟨ 15 ‥ 12 ⟩) 1
 
 -- A4.1.103 STREX; DDI 0406C, STREXB and STREXH
 unfoldable pub strexOf : List ℕ → ℕ → Bool → ℕ → List ℕ → Outcome × List ℕ × List ℕ
 strexOf regs op present tag l =
     if succeeds regs op present tag
     then guardedOf (outsideOf (length l) (baseOf regs op) (widthOf op) 1) regs l
-    (succeededOf regs op (writtenOf l (baseOf regs op) (widthOf op) (sourceOf regs op)))
-    else failedOf regs op l
+    (beside (succeededOf regs op) (writtenOf l (baseOf regs op) (widthOf op) (sourceOf regs op)))
+    else beside (failedOf regs op) l
 
 -- DDI 0406C, STREXD: r15 has no partner
 unfoldable pub strexdOf : List ℕ → ℕ → Bool → ℕ → List ℕ → Outcome × List ℕ × List ℕ
@@ -81,8 +83,10 @@ strexdOf regs op present tag l =
     if op ⟨ 3 ‥ 0 ⟩ == 15 then beside (undefinedOf regs op) l
     else if succeeds regs op present tag
     then guardedOf (outsideOf (length l) (baseOf regs op) 4 2) regs l
-    (succeededOf regs op (putWord (putWord l (baseOf regs op) (sourceOf regs op)) (secondOf regs op) (getD regs (op ⟨ 3 ‥ 0 ⟩ + 1) 0)))
-    else failedOf regs op l
+    (beside
+    (succeededOf regs op)
+    (putWord (putWord l (baseOf regs op) (sourceOf regs op)) (secondOf regs op) (getD regs (op ⟨ 3 ‥ 0 ⟩ + 1) 0)))
+    else beside (failedOf regs op) l
 
 -- L, bit 20: a load, or a store; the tag is whether there is one, and its address
 unfoldable pub exclusiveOf : List ℕ → ℕ → Bool → ℕ → List ℕ → Outcome × List ℕ × List ℕ

@@ -1,8 +1,10 @@
 // Swaps, and loads and stores exclusive, on lent registers and memory.
 ghost use mathlib.Core.Path.{_≡_};
+ghost use Prim.Native.Nat.{_<_};
 ghost use Rattle.memory.specs.Bytes.{Width};
-ghost use Rattle.exclusive.specs.Exclusive.{swapWidthOf, swapOf, widthOf, ldrexOf, ldrexdOf, succeededOf, strexOf, strexdOf, exclusiveOf};
-use cpu::{Answer, Outcome};
+ghost use Rattle.exclusive.specs.Exclusive.{swapWidthOf, swapOf, widthOf, ldrexOf, ldrexdOf, markedOf, succeededOf, failedOf, strexOf, strexdOf, exclusiveOf};
+use cpu::Answer;
+use cpu::Outcome;
 use memory::Found;
 
 fn swap_width(op: u32) -> u32
@@ -37,6 +39,15 @@ fn size_width(op: u32) -> u32
     }
 }
 
+// A value in a register, r15 by a branch, and the tag.
+fn give_tagged(regs: &mut [u32; 16], rd: u32, value: u32, at: u32) -> Outcome
+    requires { ⌜ rd < 16 ⌝ }
+    ensures { λ r. ⌜ (r, now (regs .exit)) ≡ markedOf (now (regs .entry)) rd value at ⌝ }
+{
+    cpu::land(regs, rd, value);
+    cpu::set_tag(at)
+}
+
 // LDREX, LDREXB, LDREXH.
 fn load_one(regs: &mut [u32; 16], mem: &[u8], op: u32) -> Outcome
     ensures { λ r. ⌜ (r, now (regs .exit), now (mem .entry)) ≡ ldrexOf (now (regs .entry)) op (now (mem .entry)) ⌝ }
@@ -47,8 +58,7 @@ fn load_one(regs: &mut [u32; 16], mem: &[u8], op: u32) -> Outcome
         cpu::stop_with(Answer::Bus(at))
     } else {
         let value = memory::load(mem, at, width);
-        cpu::land(regs, op / 4096 % 16, value);
-        cpu::set_tag(at)
+        give_tagged(regs, op / 4096 % 16, value, at)
     }
 }
 
@@ -66,12 +76,26 @@ fn load_pair(regs: &mut [u32; 16], mem: &[u8], op: u32) -> Outcome
             Found::Inside => {
                 regs[rd as usize] = memory::read32(mem, at);
                 let second = memory::read32(mem, bits::wrapping_add(at, 4));
-                cpu::land(regs, rd + 1, second);
-                cpu::set_tag(at)
+                give_tagged(regs, rd + 1, second, at)
             }
             Found::Outside(address) => cpu::stop_with(Answer::Bus(address)),
         }
     }
+}
+
+// Status 0, and the tag goes.
+fn succeed(regs: &mut [u32; 16], op: u32) -> Outcome
+    ensures { λ r. ⌜ (r, now (regs .exit)) ≡ succeededOf (now (regs .entry)) op ⌝ }
+{
+    cpu::land(regs, op / 4096 % 16, 0);
+    cpu::clear_tag()
+}
+
+// Status 1, and the tag stays.
+fn fail(regs: &mut [u32; 16], op: u32) -> Outcome
+    ensures { λ r. ⌜ (r, now (regs .exit)) ≡ failedOf (now (regs .entry)) op ⌝ }
+{
+    cpu::land(regs, op / 4096 % 16, 1)
 }
 
 // STREX, STREXB, STREXH.
@@ -85,12 +109,12 @@ fn store_one(regs: &mut [u32; 16], mem: &mut [u8], op: u32, tagged: bool, tag: u
         if memory::reaches_out(mem.len(), at, width) {
             cpu::stop_with(Answer::Bus(at))
         } else {
-            memory::store(mem, at, width, regs[(op % 16) as usize]);
-            cpu::land(regs, op / 4096 % 16, 0);
-            cpu::clear_tag()
+            let value = regs[(op % 16) as usize];
+            memory::store(mem, at, width, value);
+            succeed(regs, op)
         }
     } else {
-        cpu::land(regs, op / 4096 % 16, 1)
+        fail(regs, op)
     }
 }
 
@@ -110,13 +134,12 @@ fn store_pair(regs: &mut [u32; 16], mem: &mut [u8], op: u32, tagged: bool, tag: 
                 Found::Inside => {
                     memory::write32(mem, at, regs[rm as usize]);
                     memory::write32(mem, bits::wrapping_add(at, 4), regs[(rm + 1) as usize]);
-                    cpu::land(regs, op / 4096 % 16, 0);
-                    cpu::clear_tag()
+                    succeed(regs, op)
                 }
                 Found::Outside(address) => cpu::stop_with(Answer::Bus(address)),
             }
         } else {
-            cpu::land(regs, op / 4096 % 16, 1)
+            fail(regs, op)
         }
     }
 }

@@ -1,11 +1,8 @@
-use mathlib.Core.Path.{sym, ap, _∙_}
-use mathlib.Core.List.{List}
-use Prim.Native.Nat.{ℕ}
+use mathlib.Core.Path.{sym, _∙_}
 use borrow.Author.Needs.{needs}
 use Rattle.memory.specs.Laws.Plans.{told-inside}
-use Rattle.cpu.specs.declared.Outcome.{Outcome}
 use Rattle.exclusive.specs.Exclusive.{ldrexOf}
-use Rattle.exclusive.specs.Laws.Guards.{one-inside, one-outside}
+use Rattle.exclusive.specs.Laws.Guards.{one-inside, one-outside, beside-of}
 use Rattle.exclusive.proofs.load_one.Statement.{statement}
 use Rattle.exclusive.proofs.load_one.Tie as tie
 
@@ -16,18 +13,19 @@ returns : tie.Need-returns
 unfolding ldrexOf
 returns c =
     let t = c .before in
-    rw (c .stop-with .ensures, ← t .before .before .size-width .ensures .0)
-    (sym (one-outside _ _ _ _ _ _ (t .before .reaches-out .ensures) (t .if1 .taken)))
+    let w = t .before .before in
+    let a = w .before .before .before .args in
+    rw (c .stop-with .ensures, ← w .size-width .ensures .0)
+    (sym (one-outside (a .regs .now) (a .mem .now) _ _ _ _ (t .before .reaches-out .ensures) (t .if1 .taken)))
 
 returns-2 : tie.Need-returns-2
 unfolding ldrexOf
 returns-2 c =
-    let s = c .before .before .before in
-    let t = s .before in
-    let a = t .before .before .before .before .before .args in
-    let q = ap (λ (x : Outcome × List ℕ). x .1) (c .before .land .ensures) in
-    rw (← t .before .before .size-width .ensures .0, c .set-tag .ensures, q, s .load .ensures)
-    (sym (one-inside (a .regs .now) (a .mem .now) _ _ _ _ (t .before .reaches-out .ensures) (t .if1 .left)))
+    let t = c .before .before .before in
+    let w = t .before .before in
+    let a = w .before .before .before .args in
+    rw (← w .size-width .ensures .0, ← c .before .before .load .ensures)
+    (beside-of _ (c .give-tagged .ensures) ∙ sym (one-inside (a .regs .now) (a .mem .now) _ _ _ _ (t .before .reaches-out .ensures) (t .if1 .left)))
 
 pub load-one-spec : {M : Type 1} → statement M
 load-one-spec =
@@ -40,7 +38,6 @@ load-one-spec =
     (λ c κs. search needs)
     (λ c κs. search needs)
     load-requires
-    (λ c κs. search needs)
     (λ c κs. search needs)
     returns
     returns-2)

@@ -1,11 +1,8 @@
-use mathlib.Core.Path.{sym, ap, _∙_}
-use mathlib.Core.List.{List}
-use Prim.Native.Nat.{ℕ}
+use mathlib.Core.Path.{sym, _∙_}
 use borrow.Author.Needs.{needs}
 use borrow.Author.Tests.{ne-eqb}
 use Rattle.bits.specs.Cases.{if_then_else_}
 use Rattle.memory.specs.Laws.Plans.{inside-two}
-use Rattle.cpu.specs.declared.Outcome.{Outcome}
 use Rattle.exclusive.specs.Exclusive.{ldrexdOf}
 use Rattle.exclusive.specs.Laws.Guards.{guarded-inside, guarded-outside, beside-of}
 use Rattle.exclusive.proofs.load_pair.Statement.{statement}
@@ -26,14 +23,13 @@ returns c = rw (c .before .before .if1 .taken) (beside-of _ (c .refuse .ensures)
 returns-2 : tie.Need-returns-2
 unfolding ldrexdOf if_then_else_
 returns-2 c =
-    let s = c .before .before .before in
+    let s = c .before .before in
     let t = s .before .before .before in
     let f = t .before .before in
     let i = f .before .before in
     let a = i .before .before .args in
-    let q = ap (λ (x : Outcome × List ℕ). x .1) (c .before .land .ensures) in
-    rw (ne-eqb _ _ (i .if1 .left), c .set-tag .ensures, q, s .read322 .ensures, s .before .wrapping-add .ensures, s .before .before .read32 .ensures)
-    (sym (guarded-inside (a .regs .now) (a .mem .now) _ _ (sym (f .find-outside .ensures) ∙ t .enum-told .given .1)))
+    rw (ne-eqb _ _ (i .if1 .left), ← s .before .wrapping-add .ensures, ← s .read322 .ensures, ← s .before .before .read32 .ensures)
+    (beside-of _ (c .give-tagged .ensures) ∙ sym (guarded-inside (a .regs .now) (a .mem .now) _ _ (sym (f .find-outside .ensures) ∙ t .enum-told .given .1)))
 
 returns-3 : tie.Need-returns-3
 unfolding ldrexdOf if_then_else_
@@ -62,7 +58,6 @@ load-pair-spec =
     (λ c κs. search needs)
     read32-requires-2
     (λ c. search needs)
-    (λ c κs. search needs)
     (λ c κs. search needs)
     (λ c. search needs)
     (λ c κs. search needs)

@@ -1,10 +1,7 @@
-use mathlib.Core.Path.{sym, ap, _∙_}
-use mathlib.Core.List.{List}
-use Prim.Native.Nat.{ℕ}
+use mathlib.Core.Path.{sym, _∙_}
 use borrow.Author.Needs.{needs}
 use Rattle.bits.specs.Cases.{if_then_else_}
 use Rattle.memory.specs.Laws.Plans.{told-inside}
-use Rattle.cpu.specs.declared.Outcome.{Outcome}
 use Rattle.exclusive.specs.Exclusive.{strexOf}
 use Rattle.exclusive.specs.Laws.Guards.{one-inside, one-outside, beside-of}
 use Rattle.exclusive.proofs.store_one.Statement.{statement}
@@ -20,23 +17,23 @@ unfolding strexOf if_then_else_
 returns c =
     let t = c .before in
     let w = t .before .before in
+    let a = w .before .before .before .before .args in
     rw (w .before .if1 .taken, c .stop-with .ensures, ← w .size-width .ensures .0)
-    (sym (one-outside _ _ _ _ _ _ (t .before .reaches-out .ensures) (t .if2 .taken)))
+    (sym (one-outside (a .regs .now) (a .mem .now) _ _ _ _ (t .before .reaches-out .ensures) (t .if2 .taken)))
 
 returns-2 : tie.Need-returns-2
 unfolding strexOf if_then_else_
 returns-2 c =
-    let s = c .before .before .before .before .before in
+    let s = c .before .before .before .before in
     let t = s .before .before .before in
     let w = t .before .before in
     let a = w .before .before .before .before .args in
-    let q = ap (λ (x : Outcome × List ℕ). x .1) (c .before .land .ensures) in
-    rw (w .before .if1 .taken, ← w .size-width .ensures .0, c .clear-tag .ensures, q, s .store .ensures)
-    (sym (one-inside (a .regs .now) (a .mem .now) _ _ _ _ (t .before .reaches-out .ensures) (t .if2 .left)))
+    rw (w .before .if1 .taken, ← w .size-width .ensures .0, s .store .ensures)
+    (beside-of _ (c .succeed .ensures) ∙ sym (one-inside (a .regs .now) (a .mem .now) _ _ _ _ (t .before .reaches-out .ensures) (t .if2 .left)))
 
 returns-3 : tie.Need-returns-3
 unfolding strexOf if_then_else_
-returns-3 c = rw (c .before .before .if1 .left) (beside-of _ (c .land2 .ensures))
+returns-3 c = rw (c .before .before .if1 .left) (beside-of _ (c .fail .ensures))
 
 pub store-one-spec : {M : Type 1} → statement M
 store-one-spec =
@@ -52,7 +49,6 @@ store-one-spec =
     (λ c. search needs)
     (λ c. search needs)
     store-requires
-    (λ c κs. search needs)
     (λ c κs. search needs)
     (λ c κs. search needs)
     returns

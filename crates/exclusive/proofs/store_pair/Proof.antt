@@ -1,12 +1,9 @@
-use mathlib.Core.Path.{sym, ap, _∙_}
-use mathlib.Core.List.{List}
-use Prim.Native.Nat.{ℕ}
+use mathlib.Core.Path.{sym, _∙_}
 use borrow.Author.Needs.{needs}
 use borrow.Author.Tests.{ne-eqb}
 use Rattle.bits.specs.Cases.{if_then_else_}
 use Rattle.memory.specs.Laws.Bytes.{length-word}
 use Rattle.memory.specs.Laws.Plans.{inside-two}
-use Rattle.cpu.specs.declared.Outcome.{Outcome}
 use Rattle.exclusive.specs.Exclusive.{strexdOf}
 use Rattle.exclusive.specs.Laws.Guards.{guarded-inside, guarded-outside, beside-of}
 use Rattle.exclusive.proofs.store_pair.Statement.{statement}
@@ -28,16 +25,15 @@ returns c = rw (c .before .before .if1 .taken) (beside-of _ (c .refuse .ensures)
 returns-2 : tie.Need-returns-2
 unfolding strexdOf if_then_else_
 returns-2 c =
-    let s = c .before .before .before .before .before in
+    let s = c .before .before .before .before in
     let p = s .before .before in
     let v = p .before .before .before .before in
     let t = v .before .before .before in
     let f = t .before .before in
     let i = f .before .before .before in
     let a = i .before .before .args in
-    let q = ap (λ (x : Outcome × List ℕ). x .1) (c .before .land .ensures) in
-    rw (ne-eqb _ _ (i .if1 .left), f .before .if2 .taken, c .clear-tag .ensures, q, s .write322 .ensures, p .wrapping-add .ensures, v .write32 .ensures)
-    (sym (guarded-inside (a .regs .now) (a .mem .now) _ _ (sym (f .find-outside .ensures) ∙ t .enum-told .given .1)))
+    rw (ne-eqb _ _ (i .if1 .left), f .before .if2 .taken, s .write322 .ensures, p .wrapping-add .ensures, v .write32 .ensures)
+    (beside-of _ (c .succeed .ensures) ∙ sym (guarded-inside (a .regs .now) (a .mem .now) _ _ (sym (f .find-outside .ensures) ∙ t .enum-told .given .1)))
 
 returns-3 : tie.Need-returns-3
 unfolding strexdOf if_then_else_
@@ -53,7 +49,7 @@ returns-4 : tie.Need-returns-4
 unfolding strexdOf if_then_else_
 returns-4 c =
     let t = c .before .before in
-    rw (ne-eqb _ _ (t .before .before .if1 .left), t .if2 .left) (beside-of _ (c .land2 .ensures))
+    rw (ne-eqb _ _ (t .before .before .if1 .left), t .if2 .left) (beside-of _ (c .fail .ensures))
 
 pub store-pair-spec : {M : Type 1} → statement M
 store-pair-spec =
@@ -75,7 +71,6 @@ store-pair-spec =
     (λ c. search needs)
     (λ c. search needs)
     write32-requires-2
-    (λ c κs. search needs)
     (λ c κs. search needs)
     (λ c. search needs)
     (λ c κs. search needs)

@@ -18,8 +18,9 @@ returns : tie.Need-returns
 unfolding swapOf
 returns c =
     let t = c .before in
+    let a = t .before .before .before .before .before .args in
     rw (c .stop-with .ensures, ← t .before .before .swap-width .ensures .0)
-    (sym (one-outside _ _ _ _ _ _ (t .before .reaches-out .ensures) (t .if1 .taken)))
+    (sym (one-outside (a .regs .now) (a .mem .now) _ _ _ _ (t .before .reaches-out .ensures) (t .if1 .taken)))
 
 returns-2 : tie.Need-returns-2
 unfolding swapOf

@@ -6,7 +6,7 @@ use mathlib.Core.Logic.{_⊎_, inl, inr, ⊎-elim}
 use Prim.Native.Nat.{ℕ}
 use native.Mathlib.Omega.{arith}
 use lib.ListN.{length, set, length-set}
-use Rattle.bits.specs.Cases.{if_then_else_}
+use Rattle.bits.specs.Cases.{if_then_else_, if-no}
 use Rattle.bits.specs.Fields.{_⟨_⟩}
 use Rattle.memory.specs.declared.Found.{Found}
 use Rattle.memory.specs.Bytes.{Width}
@@ -17,7 +17,7 @@ use Rattle.cpu.specs.declared.Kind.the-variants.{Nothing, Tagged, Untagged, Sto
 use Rattle.cpu.specs.declared.Outcome.{Outcome}
 use Rattle.cpu.specs.Outcomes.{nothing, undefinedOf, landedOf}
 use Rattle.transfer.specs.Transfers.{guardedOf, beside}
-use Rattle.exclusive.specs.Exclusive.{swapWidthOf, swapOf, widthOf, givenOf, ldrexOf, ldrexdOf, succeeds, failedOf, strexOf, strexdOf, exclusiveOf}
+use Rattle.exclusive.specs.Exclusive.{swapWidthOf, swapOf, widthOf, ldrexOf, ldrexdOf, succeeds, failedOf, strexOf, strexdOf, exclusiveOf}
 use Rattle.exclusive.specs.Laws.Guards.{guarded-both}
 
 -- belongs in bits: what holds of both values holds of the choice
@@ -31,7 +31,7 @@ landed-nothing : (regs : List ℕ) (rd value : ℕ) → landedOf regs rd value .
 unfolding landedOf
 landed-nothing regs rd value = if-both (λ (x : Outcome × List ℕ). x .0 ≡ nothing) _ refl refl
 
-landed-length : (regs : List ℕ) (rd value : ℕ) → length (givenOf regs rd value) ≡ length regs
+landed-length : (regs : List ℕ) (rd value : ℕ) → length (landedOf regs rd value .1) ≡ length regs
 unfolding landedOf
 landed-length regs rd value =
     if-both (λ (x : Outcome × List ℕ). length (x .1) ≡ length regs) _
@@ -136,7 +136,7 @@ module _ (regs : List ℕ) (op : ℕ) (l : List ℕ) where
       (goes-undefined Marks regs l op)
       (goes-guarded Marks regs l _ (record { kinds = inr (inr (inl refl)); registers = landed-length _ _ _ ∙ length-set regs _ _; bytes = refl }))
 
-  failed-goes : Goes Marks regs l (failedOf regs op l)
+  failed-goes : Goes Marks regs l (beside (failedOf regs op) l)
   failed-goes = record { kinds = inr (inl (rw landed-nothing)); registers = landed-length regs _ _; bytes = refl }
 
   module _ (present : Bool) (tag : ℕ) where
@@ -200,7 +200,7 @@ module _ (regs : List ℕ) (op : ℕ) (l : List ℕ) where
   failed-undefined =
       record { bytes = refl; tag = inr refl; access = λ address e. let z : _≡_ {A = ℕ} 0 1 = cc in omega arith }
 
-  failed-is : Failed l (failedOf regs op l)
+  failed-is : Failed l (beside (failedOf regs op) l)
   failed-is =
       record {
         bytes = refl;
@@ -208,7 +208,15 @@ module _ (regs : List ℕ) (op : ℕ) (l : List ℕ) where
         access = λ address e. let k = rw landed-nothing at e in let z : _≡_ {A = ℕ} 0 1 = cc in omega arith;
       }
 
-  pub failed-store : (present : Bool) (tag : ℕ) → op ⟨ 20 ⟩ ≡ false → succeeds regs op present tag ≡ false → Failed l (exclusiveOf regs op present tag l)
-  unfolding exclusiveOf strexOf strexdOf if_then_else_
-  failed-store present tag load fails =
-      rw (load, fails) (if-both (Failed l) _ (if-both (Failed l) _ failed-undefined failed-is) failed-is)
+  module _ (present : Bool) (tag : ℕ) (fails : succeeds regs op present tag ≡ false) where
+    failed-one : Failed l (strexOf regs op present tag l)
+    unfolding strexOf
+    failed-one = rw (if-no _ _ _ fails) failed-is
+
+    failed-pair : Failed l (strexdOf regs op present tag l)
+    unfolding strexdOf
+    failed-pair = rw (if-no (succeeds regs op present tag) _ _ fails) (if-both (Failed l) _ failed-undefined failed-is)
+
+    pub failed-store : op ⟨ 20 ⟩ ≡ false → Failed l (exclusiveOf regs op present tag l)
+    unfolding exclusiveOf
+    failed-store store = rw (if-no _ _ _ store) (if-both (Failed l) _ failed-pair failed-one)
