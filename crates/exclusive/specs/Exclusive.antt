@@ -1,4 +1,4 @@
--- Swaps, and loads and stores exclusive, on the sixteen registers and memory; r15 in regs is A + 8. The address is Rn in all of them.
+-- Swaps, and loads and stores exclusive, on the sixteen registers and memory; r15 in regs is A + 8. The address is Rn as it stands; D7.
 use mathlib.Core.Bool.{Bool, _&&_}
 use mathlib.Core.List.{List}
 use Prim.Native.Nat.{ℕ, _+_, _%_, _^_}
@@ -48,7 +48,7 @@ ldrexOf regs op l =
     guardedOf (outsideOf (length l) (baseOf regs op) (widthOf op) 1) regs l
     (beside (markedOf regs (op ⟨ 15 ‥ 12 ⟩) (readOf l (baseOf regs op) (widthOf op)) (baseOf regs op)) l)
 
--- DDI 0406C, LDREXD: r15 has no partner; the first register is written as it is
+-- DDI 0406C, LDREXD: r15 first has no partner, and is Undefined; the first register is written as it is
 unfoldable pub ldrexdOf : List ℕ → ℕ → List ℕ → Outcome × List ℕ × List ℕ
 ldrexdOf regs op l =
     if op ⟨ 15 ‥ 12 ⟩ == 15 then beside (undefinedOf regs op) l
@@ -77,7 +77,7 @@ strexOf regs op present tag l =
     (beside (succeededOf regs op) (writtenOf l (baseOf regs op) (widthOf op) (sourceOf regs op)))
     else beside (failedOf regs op) l
 
--- DDI 0406C, STREXD: r15 has no partner
+-- DDI 0406C, STREXD: r15 first has no partner, and is Undefined before the tag is looked at
 unfoldable pub strexdOf : List ℕ → ℕ → Bool → ℕ → List ℕ → Outcome × List ℕ × List ℕ
 strexdOf regs op present tag l =
     if op ⟨ 3 ‥ 0 ⟩ == 15 then beside (undefinedOf regs op) l
