@@ -1,0 +1,3 @@
+pub mod Single
+pub mod Extra
+pub mod Laws
