@@ -1,0 +1,2 @@
+pub mod Media
+pub mod Laws
