@@ -1,0 +1,113 @@
+-- A transfer a register at a time.
+use mathlib.Core.Path.{_≡_, refl, sym, ap, _∙_}
+use mathlib.Core.List.{List, [], _∷_, map}
+use Prim.Native.Nat.{ℕ, zero, suc, _+_, _-_, _*_, _/_, _%_, _^_, _≤_, _<_}
+use native.Mathlib.Omega.{arith}
+use native.Mathlib.Nat.{mul-suc}
+use lib.ListN.{length, getD, set}
+use borrow.Author.Tests.{le-ltb}
+use Rattle.bits.specs.Cases.{if-no}
+use Rattle.memory.specs.Bytes.{wordAt, putWord}
+use Rattle.memory.specs.Plans.{accessesOf, firstOut, outsideOf, wordsAt, putWords, storedOf}
+use Rattle.memory.specs.Laws.Plans.{inside-next, out-later}
+use Rattle.memory.specs.Laws.Bytes.{length-word}
+use Rattle.memory.specs.declared.Found.{Found}
+use Rattle.memory.specs.declared.Found.the-variants.{Inside, Outside}
+use Rattle.block.specs.declared.Plan.{Plan}
+use Rattle.block.specs.Block.{registersOf, countOf, foundOf, savedOf, putEach, filledOf}
+use Rattle.block.specs.Laws.Lists.{restOf, halved-is, rest-set, rest-clear, rest-small, rest-reach, rest-none, count-rest}
+
+-- belongs in memory: a run whose end lies inside lies inside
+pub end-inside : (len at width n : ℕ) → at + width * n ≤ len → outsideOf len at width n ≡ Inside
+unfolding accessesOf firstOut
+end-inside len at width zero h = refl
+end-inside len at width (suc n) h =
+    let k : at + width ≤ len = omega (arith, mul-suc width n) in
+    if-no _ _ _ (le-ltb len (at + width) k) ∙ end-inside len ((at + width) % 2 ^ 32) width n (omega (arith, mul-suc width n))
+
+-- what a transfer requires of its plan
+abbrev pub Told : Plan → ℕ → Type 0
+Told p len = (foundOf p len ≡ Inside) × (p .list < 2 ^ 16)
+
+-- A transfer under way: the registers of rest, from i on, have their words from a on.
+pub record Under (len rest a i : ℕ) : Type 0 where
+  pub small : rest < 2 ^ (16 - i)
+  pub inside : outsideOf len a 4 (length (restOf i rest)) ≡ Inside
+
+pub under-first : (p : Plan) (len : ℕ) → Told p len → Under len (p .list) (p .start) 0
+under-first p len t = record { small = t .1; inside = rw (count-rest (p .list) (t .1)) at (t .0) }
+
+module _ {len rest a i : ℕ} (u : Under len rest a i) (h : 0 < rest) where
+  pub under-reach : i < 16
+  under-reach = rest-reach i rest (u .small) h
+
+  under-next : rest % 2 ≡ 1 → (a + 4 ≤ len) × (outsideOf len ((a + 4) % 2 ^ 32) 4 (length (restOf (i + 1) (rest / 2))) ≡ Inside)
+  under-next b =
+      let n : ℕ = length (restOf (i + 1) (rest / 2)) in
+      let e : suc n - 1 ≡ n = omega arith in
+      rw e at (inside-next len a 4 (suc n) (omega arith) (rw (rest-set i rest under-reach b) at (u .inside)))
+
+  pub under-here : rest % 2 ≡ 1 → a + 4 ≤ len
+  under-here b = under-next b .0
+
+  pub under-set : rest % 2 ≡ 1 → Under len (rest / 2) ((a + 4) % 2 ^ 32) (i + 1)
+  under-set b = record { small = rest-small i rest under-reach (u .small); inside = under-next b .1 }
+
+  pub under-clear : (rest % 2 ≡ 1 → ⊥) → Under len (rest / 2) a (i + 1)
+  under-clear b =
+      record { small = rest-small i rest under-reach (u .small); inside = rw (rest-clear i rest under-reach b) at (u .inside) }
+
+-- a store, a register at a time
+unfoldable pub savedFrom : (ℕ → ℕ) → List ℕ → ℕ → List ℕ → List ℕ
+savedFrom source l at [] = l
+savedFrom source l at (r ∷ rest) = savedFrom source (putWord l at (source r)) ((at + 4) % 2 ^ 32) rest
+
+saved-from : (source : ℕ → ℕ) (l : List ℕ) (at : ℕ) (rs : List ℕ) → storedOf l at (length rs) (map source rs) ≡ savedFrom source l at rs
+unfolding storedOf putWords accessesOf savedFrom
+saved-from source l at [] = refl
+saved-from source l at (r ∷ rs) = saved-from source (putWord l at (source r)) ((at + 4) % 2 ^ 32) rs
+
+pub saved-is : (p : Plan) (source : ℕ → ℕ) (l : List ℕ) → p .list < 2 ^ 16 → savedOf p source l ≡ savedFrom source l (p .start) (restOf 0 (p .list))
+saved-is p source l h =
+    rw (halved-is (p .list), count-rest (p .list) h) (saved-from source l (p .start) (restOf 0 (p .list)))
+
+module _ (source : ℕ → ℕ) (l : List ℕ) (a i rest : ℕ) where
+  pub save-set : i < 16 → rest % 2 ≡ 1
+      → savedFrom source l a (restOf i rest) ≡ savedFrom source (putWord l a (source i)) ((a + 4) % 2 ^ 32) (restOf (i + 1) (rest / 2))
+  unfolding savedFrom
+  save-set h b = ap (savedFrom source l a) (rest-set i rest h b)
+
+  pub save-clear : i < 16 → (rest % 2 ≡ 1 → ⊥) → savedFrom source l a (restOf i rest) ≡ savedFrom source l a (restOf (i + 1) (rest / 2))
+  save-clear h b = ap (savedFrom source l a) (rest-clear i rest h b)
+
+  pub save-none : rest ≤ 0 → savedFrom source l a (restOf i rest) ≡ l
+  unfolding savedFrom
+  save-none h = ap (savedFrom source l a) (rest-none i rest h)
+
+-- a load, a register at a time
+unfoldable pub filledFrom : {A : Type 0} → (A → ℕ → ℕ → A) → A → List ℕ → ℕ → List ℕ → A
+filledFrom put x l at [] = x
+filledFrom put x l at (r ∷ rest) = filledFrom put (put x r (wordAt l at)) l ((at + 4) % 2 ^ 32) rest
+
+module _ {A : Type 0} (put : A → ℕ → ℕ → A) where
+  filled-from : (x : A) (l : List ℕ) (at : ℕ) (rs : List ℕ) → putEach put x rs (wordsAt l (accessesOf at 4 (length rs))) ≡ filledFrom put x l at rs
+  unfolding putEach wordsAt accessesOf filledFrom
+  filled-from x l at [] = refl
+  filled-from x l at (r ∷ rs) = filled-from (put x r (wordAt l at)) l ((at + 4) % 2 ^ 32) rs
+
+  pub filled-is : (p : Plan) (x : A) (l : List ℕ) → p .list < 2 ^ 16 → filledOf p put x l ≡ filledFrom put x l (p .start) (restOf 0 (p .list))
+  filled-is p x l h =
+      rw (halved-is (p .list), count-rest (p .list) h) (filled-from x l (p .start) (restOf 0 (p .list)))
+
+  module _ (x : A) (l : List ℕ) (a i rest : ℕ) where
+    pub fill-set : i < 16 → rest % 2 ≡ 1
+        → filledFrom put x l a (restOf i rest) ≡ filledFrom put (put x i (wordAt l a)) l ((a + 4) % 2 ^ 32) (restOf (i + 1) (rest / 2))
+    unfolding filledFrom
+    fill-set h b = ap (filledFrom put x l a) (rest-set i rest h b)
+
+    pub fill-clear : i < 16 → (rest % 2 ≡ 1 → ⊥) → filledFrom put x l a (restOf i rest) ≡ filledFrom put x l a (restOf (i + 1) (rest / 2))
+    fill-clear h b = ap (filledFrom put x l a) (rest-clear i rest h b)
+
+    pub fill-none : rest ≤ 0 → filledFrom put x l a (restOf i rest) ≡ x
+    unfolding filledFrom
+    fill-none h = ap (filledFrom put x l a) (rest-none i rest h)

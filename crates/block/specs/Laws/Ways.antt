@@ -1,0 +1,33 @@
+-- The ways through a block transfer.
+use mathlib.Core.Path.{_≡_, refl, sym, ap, _∙_}
+use mathlib.Core.List.{List}
+use Prim.Native.Nat.{ℕ, _/_, _%_, _^_}
+use lib.ListN.{length}
+use borrow.Author.Tests.{eq-eqb, ne-eqb}
+use Rattle.bits.specs.Cases.{if_then_else_}
+use Rattle.memory.specs.declared.Found.{Found}
+use Rattle.memory.specs.declared.Found.the-variants.{Inside, Outside}
+use Rattle.cpu.specs.declared.Outcome.{Outcome}
+use Rattle.cpu.specs.declared.Answer.the-variants.{Bus}
+use Rattle.cpu.specs.Outcomes.{stops}
+use Rattle.transfer.specs.Transfers.{guardedOf, beside}
+use Rattle.block.specs.declared.Plan.{Plan}
+use Rattle.block.specs.Block.{planOf, foundOf, storeOf, loadOf, blockOf}
+
+-- an outcome on registers, with memory beside it
+pub besides : {o : Outcome} {regs : List ℕ} {x : Outcome × List ℕ} (l : List ℕ) → _≡_ {A = Outcome × List ℕ} (o, regs) x
+    → _≡_ {A = Outcome × List ℕ × List ℕ} (o, regs, l) (beside x l)
+besides l e = ap (λ (x : Outcome × List ℕ). beside x l) e
+
+module _ (regs : List ℕ) (op : ℕ) {p : Plan} (l : List ℕ) (e : p ≡ planOf regs op) (s : op / 2 ^ 22 % 2 ≡ 1 → ⊥) where
+  pub loads : foundOf p (length l) ≡ Inside → op / 2 ^ 20 % 2 ≡ 1 → loadOf p regs op l ≡ blockOf regs op l
+  unfolding blockOf guardedOf if_then_else_
+  loads f b = rw (← e, ne-eqb (op / 2 ^ 22 % 2) 1 s, f, b)
+
+  pub stores : foundOf p (length l) ≡ Inside → (op / 2 ^ 20 % 2 ≡ 1 → ⊥) → storeOf p regs op l ≡ blockOf regs op l
+  unfolding blockOf guardedOf if_then_else_
+  stores f b = rw (← e, ne-eqb (op / 2 ^ 22 % 2) 1 s, f, ne-eqb (op / 2 ^ 20 % 2) 1 b)
+
+  pub refuses : (at : ℕ) → foundOf p (length l) ≡ Outside at → (stops (Bus at), regs, l) ≡ blockOf regs op l
+  unfolding blockOf guardedOf if_then_else_
+  refuses at f = rw (← e, ne-eqb (op / 2 ^ 22 % 2) 1 s, f)
