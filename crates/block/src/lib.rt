@@ -3,9 +3,12 @@ ghost use mathlib.Core.Path.{_≡_};
 ghost use Prim.Native.Nat.{_^_, _<_};
 ghost use lib.ListN.{length};
 ghost use Rattle.block.specs.Block.{listOf, spanOf, startOf, planOf, foundOf, backOf, unlistedOf, loadedOf, onwardOf, storeOf, loadOf, blockOf};
+ghost use Rattle.block.specs.UserBlock.{onward, userStoreOf, basedOf, userLoadedOf, userLoadOf, returnLoadOf, userMovedOf, userBlockOf};
 ghost use Rattle.block.specs.Laws.Loops.{Told};
-ghost use Rattle.block.specs.Laws.Sources.{sourcesOf, savedBy};
+ghost use Rattle.block.specs.Laws.Sources.{sourcesOf, savedBy, Values};
+ghost use Rattle.banks.specs.Banks.{userRegOf};
 use cpu::Answer;
+use cpu::Machine;
 use cpu::Outcome;
 use memory::Found;
 
@@ -201,5 +204,145 @@ pub fn execute(regs: &mut [u32; 16], op: u32, mem: &mut [u8]) -> Outcome
             }
             Found::Outside(at) => cpu::stop_with(Answer::Bus(at)),
         }
+    }
+}
+
+// A machine, and Done or Bus.
+pub struct Blocked {
+    pub machine: Machine,
+    pub answer: Answer,
+}
+
+fn move_on(m: Machine) -> Machine
+    ensures { λ r. ⌜ r ≡ onward m ⌝ }
+{
+    let next = bits::wrapping_sub(m.regs[15], 4);
+    let mut out = m;
+    out.regs[15] = next;
+    out
+}
+
+// The registers of the User bank.
+fn take_user(m: Machine) -> [u32; 16]
+    ensures { λ r. ⌜ Values r (userRegOf m) 16 ⌝ }
+{
+    let mut out = [0u32; 16];
+    let mut i: u32 = 0;
+    while i < 16 {
+        out[i as usize] = banks::read_user_reg(m, i);
+        i += 1;
+    }
+    out
+}
+
+fn store_user(m: Machine, op: u32, p: Plan, mem: &mut [u8]) -> Machine
+    requires { ⌜ Told p (length (now mem)) ⌝ }
+    ensures { λ r. ⌜ (r, now (mem .exit)) ≡ userStoreOf p m op (now (mem .entry)) ⌝ }
+{
+    let values = take_user(m);
+    store_listed(&values, p, mem);
+    let mut regs = m.regs;
+    write_back(&mut regs, op, p);
+    let mut out = m;
+    out.regs = regs;
+    move_on(out)
+}
+
+// The machine after the base is written, before the words.
+fn write_base(m: Machine, op: u32, p: Plan) -> Machine
+    ensures { λ r. ⌜ r ≡ basedOf p m op ⌝ }
+{
+    let mut regs = m.regs;
+    write_unlisted(&mut regs, op, p);
+    let mut out = m;
+    out.regs = regs;
+    out
+}
+
+// The words into the listed registers of the User bank, in transfer order.
+fn load_user_listed(m: Machine, p: Plan, mem: &[u8]) -> Machine
+    requires { ⌜ Told p (length (now mem)) ⌝ }
+    ensures { λ r. ⌜ r ≡ userLoadedOf p m (now (mem .entry)) ⌝ }
+{
+    let mut out = m;
+    let mut rest = p.list;
+    let mut a = p.start;
+    let mut i: u32 = 0;
+    while 0 < rest {
+        if rest % 2 == 1 {
+            out = banks::write_user_reg(out, i, memory::read32(mem, a));
+            a = bits::wrapping_add(a, 4);
+            rest = rest / 2;
+            i += 1;
+            continue;
+        } else {
+            rest = rest / 2;
+            i += 1;
+            continue;
+        }
+    }
+    out
+}
+
+fn load_user(m: Machine, op: u32, p: Plan, mem: &[u8]) -> Machine
+    requires { ⌜ Told p (length (now mem)) ⌝ }
+    ensures { λ r. ⌜ r ≡ userLoadOf p m op (now (mem .entry)) ⌝ }
+{
+    let out = load_user_listed(write_base(m, op, p), p, mem);
+    if p.list / 32768 % 2 == 1 {
+        out
+    } else {
+        move_on(out)
+    }
+}
+
+// The saved record comes back before r15 branches.
+fn load_return(m: Machine, op: u32, p: Plan, mem: &[u8]) -> Machine
+    requires { ⌜ Told p (length (now mem)) ⌝ }
+    ensures { λ r. ⌜ r ≡ returnLoadOf p m op (now (mem .entry)) ⌝ }
+{
+    let mut regs = m.regs;
+    write_unlisted(&mut regs, op, p);
+    load_listed(&mut regs, p, mem);
+    let to = regs[15];
+    let mut out = m;
+    out.regs = regs;
+    banks::exchange_to(banks::restore(out), to)
+}
+
+fn move_user(m: Machine, op: u32, p: Plan, mem: &mut [u8]) -> Machine
+    requires { ⌜ Told p (length (now mem)) ⌝ }
+    ensures { λ r. ⌜ (r, now (mem .exit)) ≡ userMovedOf p m op (now (mem .entry)) ⌝ }
+{
+    if op / 1048576 % 2 == 1 {
+        if op / 32768 % 2 == 1 {
+            load_return(m, op, p, mem)
+        } else {
+            load_user(m, op, p, mem)
+        }
+    } else {
+        store_user(m, op, p, mem)
+    }
+}
+
+// With S, on the machine by value.
+pub fn transfer_user(m: Machine, op: u32, mem: &mut [u8]) -> Blocked
+    ensures { λ r. ⌜ (r, now (mem .exit)) ≡ userBlockOf m op (now (mem .entry)) ⌝ }
+{
+    let regs = m.regs;
+    let p = make_plan(&regs, op);
+    let found = find_outside(mem.len(), p);
+    match found {
+        Found::Inside => {
+            let machine = move_user(m, op, p, mem);
+            Blocked {
+                machine,
+                answer: Answer::Done,
+            }
+        }
+        Found::Outside(at) => Blocked {
+            machine: m,
+            answer: Answer::Bus(at),
+        },
     }
 }

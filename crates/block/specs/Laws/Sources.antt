@@ -27,6 +27,21 @@ sourcesOf p regs op =
 abbrev pub savedBy : Plan → List ℕ → List ℕ → List ℕ
 savedBy p values l = savedOf p (λ r. getD values r 0) l
 
+-- the first n of the values are those of the registers
+abbrev pub Values : List ℕ → (ℕ → ℕ) → ℕ → Type 0
+Values values source n = (r : ℕ) → r < n → getD values r 0 ≡ source r
+
+pub values-next : (values : List ℕ) (source : ℕ → ℕ) (n v : ℕ) → n < length values → v ≡ source n → Values values source n → Values (set values n v) source (n + 1)
+values-next values source n v k e h r b = go (r == n) refl
+  where
+    go : (t : Bool) → (r == n) ≡ t → getD (set values n v) r 0 ≡ source r
+    go true d = rw (eqb-true r n d) (getD-set-same values n v 0 k ∙ e)
+    go false d = let f : r ≡ n → ⊥ = eqb-false r n d in getD-set-other values n r v 0 f ∙ h r (omega arith)
+
+pub saved-values : (p : Plan) (source : ℕ → ℕ) (values l : List ℕ) → Values values source 16 → savedBy p values l ≡ savedOf p source l
+saved-values p source values l h =
+    ap (storedOf l (p .start) (countOf (p .list))) (same-registers (λ r. getD values r 0) source (p .list) h)
+
 and-false : (b : Bool) → (b && false) ≡ false
 and-false true = refl
 and-false false = refl
@@ -59,7 +74,7 @@ module _ (p : Plan) (regs : List ℕ) (op : ℕ) (sixteen : length regs ≡ 16) 
       ∙ base-at r (moves p op) (r == op ⟨ 19 ‥ 16 ⟩) refl refl
       ∙ sym (if-no _ _ _ e)
 
-  source-each : (r : ℕ) → r < 16 → getD (sourcesOf p regs op) r 0 ≡ sourceOf p regs op r
+  source-each : Values (sourcesOf p regs op) (sourceOf p regs op) 16
   source-each r h = source-on r (r == 15) refl
 
 module _ (p : Plan) (regs : List ℕ) (op : ℕ) (l : List ℕ) where
@@ -72,6 +87,4 @@ module _ (p : Plan) (regs : List ℕ) (op : ℕ) (l : List ℕ) where
   pub saved-sources : (values : List ℕ) → length values ≡ 16 → values ≡ sourcesOf p regs op → savedBy p values l ≡ savedOf p (sourceOf p regs op) l
   saved-sources values h e =
       let sixteen : length regs ≡ 16 = sym length-sources ∙ ap length (sym e) ∙ h in
-      rw e
-      (ap (storedOf l (p .start) (countOf (p .list)))
-      (same-registers (λ r. getD (sourcesOf p regs op) r 0) (sourceOf p regs op) (p .list) (source-each p regs op sixteen)))
+      rw e (saved-values p (sourceOf p regs op) (sourcesOf p regs op) l (source-each p regs op sixteen))

@@ -8,11 +8,14 @@ use Rattle.bits.specs.Cases.{if_then_else_}
 use Rattle.memory.specs.declared.Found.{Found}
 use Rattle.memory.specs.declared.Found.the-variants.{Inside, Outside}
 use Rattle.cpu.specs.declared.Outcome.{Outcome}
-use Rattle.cpu.specs.declared.Answer.the-variants.{Bus}
+use Rattle.cpu.specs.declared.Machine.{Machine}
+use Rattle.cpu.specs.declared.Answer.the-variants.{Done, Bus}
 use Rattle.cpu.specs.Outcomes.{stops}
 use Rattle.transfer.specs.Transfers.{guardedOf, beside}
 use Rattle.block.specs.declared.Plan.{Plan}
+use Rattle.block.specs.declared.Blocked.{Blocked}
 use Rattle.block.specs.Block.{planOf, foundOf, storeOf, loadOf, blockOf}
+use Rattle.block.specs.UserBlock.{userMovedOf, blocked, wardedOf, userBlockOf}
 
 -- an outcome on registers, with memory beside it
 pub besides : {o : Outcome} {regs : List ℕ} {x : Outcome × List ℕ} (l : List ℕ) → _≡_ {A = Outcome × List ℕ} (o, regs) x
@@ -31,3 +34,14 @@ module _ (regs : List ℕ) (op : ℕ) {p : Plan} (l : List ℕ) (e : p ≡ planO
   pub refuses : (at : ℕ) → foundOf p (length l) ≡ Outside at → (stops (Bus at), regs, l) ≡ blockOf regs op l
   unfolding blockOf guardedOf if_then_else_
   refuses at f = rw (← e, ne-eqb (op / 2 ^ 22 % 2) 1 s, f)
+
+-- with S
+module _ (m : Machine) (op : ℕ) {p : Plan} (l : List ℕ) (e : p ≡ planOf (m .regs) op) where
+  pub moves-user : {x : Machine} {l′ : List ℕ} → foundOf p (length l) ≡ Inside → _≡_ {A = Machine × List ℕ} (x, l′) (userMovedOf p m op l)
+      → _≡_ {A = Blocked × List ℕ} (blocked x Done, l′) (userBlockOf m op l)
+  unfolding userBlockOf wardedOf
+  moves-user f h = rw (← e, f) (ap (λ (z : Machine × List ℕ). (blocked (z .0) Done, z .1)) h)
+
+  pub refuses-user : (at : ℕ) → foundOf p (length l) ≡ Outside at → _≡_ {A = Blocked × List ℕ} (blocked m (Bus at), l) (userBlockOf m op l)
+  unfolding userBlockOf wardedOf
+  refuses-user at f = rw (← e, f)
