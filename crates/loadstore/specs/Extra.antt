@@ -11,17 +11,13 @@ use Rattle.cpu.specs.declared.Answer.the-variants.{TransferForm}
 use Rattle.cpu.specs.declared.Outcome.{Outcome}
 use Rattle.cpu.specs.Outcomes.{stops, undefinedOf, doneOf, landedOf}
 use Rattle.transfer.specs.Transfers.{guardedOf, beside, movedOf, addressOf, basedOf}
-use Rattle.loadstore.specs.Single.{storeOf}
+use Rattle.loadstore.specs.Single.{rdOf, storeOf}
 
 -- A5.3: the offset, with bit 22 eight bits in two halves, else a register
 unfoldable pub extraOffsetOf : List ℕ → ℕ → ℕ
 extraOffsetOf regs op =
     if op ⟨ 22 ⟩ then op ⟨ 11 ‥ 8 ⟩ * 16 + op ⟨ 3 ‥ 0 ⟩
     else getD regs (op ⟨ 3 ‥ 0 ⟩) 0
-
--- Rd
-abbrev pub rdOf : ℕ → ℕ
-rdOf op = op ⟨ 15 ‥ 12 ⟩
 
 -- a load of one value into Rd: the base is written back first, so that as Rd it keeps what was loaded; r15 branches and keeps T
 abbrev pub extraLoadOf : List ℕ → ℕ → List ℕ → ℕ → ℕ → ℕ → ℕ → Outcome × List ℕ × List ℕ
@@ -50,14 +46,18 @@ strdOf regs op l moved address =
     (beside (doneOf (basedOf regs op moved))
     (putWord (putWord l address (getD regs (rdOf op) 0)) (nextOf address) (getD regs (rdOf op + 1) 0)))
 
--- A5.3: L is bit 20, S and H are bits 6 and 5; D4: an odd Rd of a pair runs; D7
+-- the loads of one value, by S and H, bits 6 and 5
+unfoldable pub extraLoadsOf : List ℕ → ℕ → List ℕ → ℕ → ℕ → Outcome × List ℕ × List ℕ
+extraLoadsOf regs op l moved address =
+    if op ⟨ 6 ‥ 5 ⟩ == 1 then extraLoadOf regs op l moved address 2 (halfAt l address)  -- A4.1.28 LDRH
+    else if op ⟨ 6 ‥ 5 ⟩ == 2 then extraLoadOf regs op l moved address 1 (extendedOf 8 (byteAt l address))  -- A4.1.29 LDRSB
+    else extraLoadOf regs op l moved address 2 (extendedOf 16 (halfAt l address))  -- A4.1.30 LDRSH
+
+-- A5.3, with L, bit 20, and S and H; D4: the first register of a pair may be odd; D7
 unfoldable pub extraAt : List ℕ → ℕ → List ℕ → ℕ → ℕ → Outcome × List ℕ × List ℕ
 extraAt regs op l moved address =
     if op ⟨ 6 ‥ 5 ⟩ == 0 then (stops (TransferForm op), regs, l)  -- answer 11
-    else if op ⟨ 20 ⟩ then
-    (if op ⟨ 6 ‥ 5 ⟩ == 1 then extraLoadOf regs op l moved address 2 (halfAt l address)  -- A4.1.28 LDRH
-    else if op ⟨ 6 ‥ 5 ⟩ == 2 then extraLoadOf regs op l moved address 1 (extendedOf 8 (byteAt l address))  -- A4.1.29 LDRSB
-    else extraLoadOf regs op l moved address 2 (extendedOf 16 (halfAt l address)))  -- A4.1.30 LDRSH
+    else if op ⟨ 20 ⟩ then extraLoadsOf regs op l moved address
     else if op ⟨ 6 ‥ 5 ⟩ == 1 then strhOf regs op l moved address
     else if rdOf op == 15 then beside (undefinedOf regs op) l  -- r15 has no register behind it
     else if op ⟨ 6 ‥ 5 ⟩ == 2 then ldrdOf regs op l moved address

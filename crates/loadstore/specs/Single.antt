@@ -22,11 +22,15 @@ offsetOf regs op c =
 unfoldable pub widthOf : ℕ → ℕ
 widthOf op = if op ⟨ 22 ⟩ then 1 else 4
 
+-- Rd
+abbrev pub rdOf : ℕ → ℕ
+rdOf op = op ⟨ 15 ‥ 12 ⟩
+
 -- a load into Rd; r15 takes T from bit 0
 unfoldable pub takenOf : List ℕ → ℕ → ℕ → Outcome × List ℕ
 takenOf regs op value =
-    if op ⟨ 15 ‥ 12 ⟩ == 15 then exchangedOf regs value
-    else putOf regs (op ⟨ 15 ‥ 12 ⟩) value
+    if rdOf op == 15 then exchangedOf regs value
+    else putOf regs (rdOf op) value
 
 -- the base is written back first: where it is Rd, it keeps what was loaded
 abbrev pub loadOf : List ℕ → ℕ → ℕ → ℕ → Outcome × List ℕ
@@ -35,8 +39,8 @@ loadOf regs op moved value = takenOf (basedOf regs op moved) op value
 -- Rd as STR and STRB store it: r15 is A + 12
 unfoldable pub sourceOf : List ℕ → ℕ → ℕ
 sourceOf regs op =
-    if op ⟨ 15 ‥ 12 ⟩ == 15 then (getD regs 15 0 + 4) % 2 ^ 32
-    else getD regs (op ⟨ 15 ‥ 12 ⟩) 0
+    if rdOf op == 15 then (getD regs 15 0 + 4) % 2 ^ 32
+    else getD regs (rdOf op) 0
 
 -- a store of the low bytes of a value, with write-back
 abbrev pub storeOf : List ℕ → ℕ → List ℕ → ℕ → ℕ → ℕ → ℕ → Outcome × List ℕ × List ℕ

@@ -4,7 +4,7 @@ ghost use Prim.Native.Nat.{_+_, _*_, _/_, _%_, _<_, _≤_};
 ghost use lib.ListN.{length};
 ghost use Rattle.memory.specs.Bytes.{Width};
 ghost use Rattle.loadstore.specs.Single.{offsetOf, widthOf, takenOf, loadOf, sourceOf, storeOf, singleAt, singleOf};
-ghost use Rattle.loadstore.specs.Extra.{extraOffsetOf, strhOf, ldrdOf, strdOf, extraAt, extraOf};
+ghost use Rattle.loadstore.specs.Extra.{extraOffsetOf, extraLoadsOf, strhOf, ldrdOf, strdOf, extraAt, extraOf};
 ghost use Rattle.loadstore.specs.Laws.Loads.{widenedOf, wideLoadOf};
 use cpu::Answer;
 use cpu::Outcome;
@@ -127,8 +127,8 @@ fn widen(value: u32, width: u32, sign: bool) -> u32
     }
 }
 
-// LDRH, LDRSB and LDRSH.
-fn load_extra(
+// A load of one value.
+fn load_wide(
     regs: &mut [u32; 16],
     op: u32,
     mem: &mut [u8],
@@ -146,6 +146,19 @@ fn load_extra(
         let value = widen(memory::load(mem, at, width), width, sign);
         transfer::write_back(regs, op, moved);
         cpu::land(regs, op / 4096 % 16, value)
+    }
+}
+
+// LDRH, LDRSB and LDRSH.
+fn load_extra(regs: &mut [u32; 16], op: u32, mem: &mut [u8], moved: u32, at: u32) -> Outcome
+    ensures { λ r. ⌜ (r, now (regs .exit), now (mem .exit)) ≡ extraLoadsOf (now (regs .entry)) op (now (mem .entry)) moved at ⌝ }
+{
+    if op / 32 % 4 == 1 {
+        load_wide(regs, op, mem, moved, at, 2, false)
+    } else if op / 32 % 4 == 2 {
+        load_wide(regs, op, mem, moved, at, 1, true)
+    } else {
+        load_wide(regs, op, mem, moved, at, 2, true)
     }
 }
 
@@ -206,13 +219,7 @@ fn move_extra(regs: &mut [u32; 16], op: u32, mem: &mut [u8], moved: u32, at: u32
     if op / 32 % 4 == 0 {
         cpu::stop_with(Answer::TransferForm(op))
     } else if op / 1048576 % 2 == 1 {
-        if op / 32 % 4 == 1 {
-            load_extra(regs, op, mem, moved, at, 2, false)
-        } else if op / 32 % 4 == 2 {
-            load_extra(regs, op, mem, moved, at, 1, true)
-        } else {
-            load_extra(regs, op, mem, moved, at, 2, true)
-        }
+        load_extra(regs, op, mem, moved, at)
     } else if op / 32 % 4 == 1 {
         store_half(regs, op, mem, moved, at)
     } else if op / 4096 % 16 == 15 {

@@ -1,4 +1,3 @@
-use borrow.Author.Needs.{needs}
 use Rattle.bits.specs.Cases.{cases}
 use Rattle.loadstore.specs.Single.{widthOf}
 use Rattle.loadstore.proofs.find_width.Statement.{statement}

@@ -1,14 +1,11 @@
 -- A guarded transfer where its accesses are known to lie inside, and where one is known to have a byte outside.
-use mathlib.Core.Path.{_≡_, refl, sym, ap, _∙_}
-use mathlib.Core.Bool.{Bool, true, false}
+use mathlib.Core.Path.{_≡_, ap}
+use mathlib.Core.Bool.{true, false}
 use mathlib.Core.List.{List}
 use Prim.Native.Nat.{ℕ}
-use lib.ListN.{length}
 use Rattle.bits.specs.Cases.{if_then_else_}
 use Rattle.memory.specs.Plans.{reachesOut, outsideOf}
 use Rattle.memory.specs.Laws.Plans.{out-one}
-use Rattle.memory.specs.declared.Found.{Found}
-use Rattle.memory.specs.declared.Found.the-variants.{Inside, Outside}
 use Rattle.cpu.specs.declared.Outcome.{Outcome}
 use Rattle.cpu.specs.declared.Answer.the-variants.{Bus}
 use Rattle.cpu.specs.Outcomes.{stops}

@@ -1,0 +1,100 @@
+-- A finished store changes only bytes of its plan, and a load none.
+use mathlib.Core.Path.{_≡_, refl, _∙_}
+use mathlib.Core.Bool.{Bool, true}
+use mathlib.Core.List.{List}
+use mathlib.Core.Logic.{inl, inr, ⊎-elim}
+use Prim.Native.Nat.{ℕ}
+use native.Mathlib.Omega.{arith}
+use lib.ListN.{getD}
+use Rattle.bits.specs.Cases.{if_then_else_, if-yes}
+use Rattle.bits.specs.Fields.{_⟨_⟩}
+use Rattle.memory.specs.Bytes.{putWord}
+use Rattle.memory.specs.Laws.Bytes.{Clear, byte-untouched, byte-word}
+use Rattle.memory.specs.declared.Found.{Found}
+use Rattle.memory.specs.declared.Found.the-variants.{Inside, Outside}
+use Rattle.cpu.specs.declared.Outcome.{Outcome}
+use Rattle.transfer.specs.Transfers.{guardedOf, movedOf, addressOf}
+use Rattle.loadstore.specs.Single.{offsetOf, widthOf, rdOf, singleAt, singleOf}
+use Rattle.loadstore.specs.Extra.{nextOf, extraOffsetOf, extraLoadOf, extraLoadsOf, strhOf, ldrdOf, strdOf, extraAt, extraOf}
+use Rattle.loadstore.specs.Laws.Kinds.{if-both, width-is}
+
+-- the address of the first access
+abbrev pub singleAddressOf : List ℕ → ℕ → Bool → ℕ
+singleAddressOf regs op c = addressOf regs op (movedOf regs op (offsetOf regs op c))
+
+abbrev pub extraAddressOf : List ℕ → ℕ → ℕ
+extraAddressOf regs op = addressOf regs op (movedOf regs op (extraOffsetOf regs op))
+
+-- belongs in transfer: what holds where registers and memory are as they came, and of what a transfer does, holds of the guarded one
+guarded-both : (P : Outcome × List ℕ × List ℕ → Type 0) (f : Found) (regs l : List ℕ) {done : Outcome × List ℕ × List ℕ} → ((o : Outcome) → P (o, regs, l)) → P done → P (guardedOf f regs l done)
+unfolding guardedOf
+guarded-both P Inside regs l p q = q
+guarded-both P (Outside a) regs l p q = p _
+
+-- memory is what it was; and byte b alone is
+abbrev Kept : List ℕ → Outcome × List ℕ × List ℕ → Type 0
+Kept l x = x .2 ≡ l
+
+abbrev Same : List ℕ → ℕ → Outcome × List ℕ × List ℕ → Type 0
+Same l b x = getD (x .2) b 0 ≡ getD l b 0
+
+module _ (regs : List ℕ) (op : ℕ) (l : List ℕ) (moved address : ℕ) where
+  same-single : (b : ℕ) → Clear address (widthOf op) b → Same l b (singleAt regs op l moved address)
+  unfolding singleAt
+  same-single b h =
+      guarded-both (Same l b) _ regs l (λ o. refl)
+      (if-both (Same l b) _ refl (byte-untouched l address (widthOf op) _ (width-is op) b h))
+
+  kept-single : op ⟨ 20 ⟩ ≡ true → singleAt regs op l moved address .2 ≡ l
+  unfolding singleAt if_then_else_
+  kept-single e = guarded-both (Kept l) _ regs l (λ o. refl) (rw e)
+
+  load-untouched : (width value : ℕ) → extraLoadOf regs op l moved address width value .2 ≡ l
+  load-untouched width value = guarded-both (Kept l) _ regs l (λ o. refl) refl
+
+  pub ldrd-untouched : ldrdOf regs op l moved address .2 ≡ l
+  ldrd-untouched = guarded-both (Kept l) _ regs l (λ o. refl) refl
+
+  pub strh-untouched : (b : ℕ) → Clear address 2 b → getD (strhOf regs op l moved address .2) b 0 ≡ getD l b 0
+  strh-untouched b h =
+      guarded-both (Same l b) _ regs l (λ o. refl) (byte-untouched l address 2 _ (omega arith, omega arith, λ e. omega arith) b h)
+
+  pub strd-untouched : (b : ℕ) → Clear address 4 b → Clear (nextOf address) 4 b → getD (strdOf regs op l moved address .2) b 0 ≡ getD l b 0
+  strd-untouched b h k =
+      guarded-both (Same l b) _ regs l (λ o. refl)
+      (byte-word (putWord l address (getD regs (rdOf op) 0)) (nextOf address) _ b k ∙ byte-word l address _ b h)
+
+  pub loads-untouched : extraLoadsOf regs op l moved address .2 ≡ l
+  unfolding extraLoadsOf
+  loads-untouched = if-both (Kept l) _ (load-untouched 2 _) (if-both (Kept l) _ (load-untouched 1 _) (load-untouched 2 _))
+
+  same-extra : (b : ℕ) → Clear address 4 b → Clear (nextOf address) 4 b → Same l b (extraAt regs op l moved address)
+  unfolding extraAt
+  same-extra b h k =
+      let n : Clear address 2 b = ⊎-elim (λ x. inl x) (λ x. inr (omega arith)) h in
+      if-both (Same l b) _ refl
+      (if-both (Same l b) _ (rw loads-untouched)
+      (if-both (Same l b) _ (strh-untouched b n) (if-both (Same l b) _ refl (if-both (Same l b) _ (rw ldrd-untouched) (strd-untouched b h k)))))
+
+  kept-extra : op ⟨ 20 ⟩ ≡ true → extraAt regs op l moved address .2 ≡ l
+  unfolding extraAt
+  kept-extra e =
+      if-both (Kept l) _ refl (rw (if-yes _ _ _ e) loads-untouched)
+
+pub single-untouched : (regs : List ℕ) (op : ℕ) (c : Bool) (l : List ℕ) (b : ℕ) → Clear (singleAddressOf regs op c) (widthOf op) b
+    → getD (singleOf regs op c l .2) b 0 ≡ getD l b 0
+unfolding singleOf
+single-untouched regs op c l = same-single regs op l _ _
+
+pub single-load-untouched : (regs : List ℕ) (op : ℕ) (c : Bool) (l : List ℕ) → op ⟨ 20 ⟩ ≡ true → singleOf regs op c l .2 ≡ l
+unfolding singleOf
+single-load-untouched regs op c l = kept-single regs op l _ _
+
+pub extra-untouched : (regs : List ℕ) (op : ℕ) (l : List ℕ) (b : ℕ) → Clear (extraAddressOf regs op) 4 b → Clear (nextOf (extraAddressOf regs op)) 4 b
+    → getD (extraOf regs op l .2) b 0 ≡ getD l b 0
+unfolding extraOf
+extra-untouched regs op l = same-extra regs op l _ _
+
+pub extra-load-untouched : (regs : List ℕ) (op : ℕ) (l : List ℕ) → op ⟨ 20 ⟩ ≡ true → extraOf regs op l .2 ≡ l
+unfolding extraOf
+extra-load-untouched regs op l = kept-extra regs op l _ _
