@@ -1,7 +1,7 @@
 -- The parts of the way out, joined.
 use mathlib.Core.Path.{_≡_, refl}
 use mathlib.Core.List.{List, _++_, map}
-use Prim.Native.Nat.{ℕ, _+_, _*_}
+use Prim.Native.Nat.{ℕ}
 use native.Mathlib.Omega.{arith}
 use lib.ListN.{length, length-append}
 use Rattle.cpu.specs.declared.Machine.{Machine}
@@ -28,36 +28,28 @@ length-tag : (t : Tag) → length (tagWords t) ≡ 2
 length-tag None = refl
 length-tag (At a) = refl
 
-module _ (l : List ℕ) (m : Machine) (s : Sized m) where
+module _ (m : Machine) (s : Sized m) where
   pub length-words : length (stateWords m) ≡ 54
   unfolding stateWords
   length-words =
-      let a = s .regs in
-      let d = s .banked in
-      let e = s .fiq in
-      let f = s .user in
-      let g = length-tag (m .tag) in
+      let t = length-tag (m .tag) in
       simp length-append (omega arith)
 
-  pub all-placed : length l ≡ 216 → backPlaced (frontPlaced l m) m ≡ bytesOf (stateWords m)
+  pub all-placed : (l : List ℕ) → length l ≡ 216 → backPlaced (frontPlaced l m) m ≡ bytesOf (stateWords m)
   unfolding frontPlaced backPlaced stateWords
-  all-placed h =
-      let a = s .regs in
-      let d = s .banked in
-      let e = s .fiq in
-      let f = s .user in
-      let r : List ℕ = m .regs in
-      let r1 : List ℕ = r ++ map packedWord (recordsOf m) in
-      let r2 : List ℕ = r1 ++ map geNumber (recordsOf m) in
-      let r3 : List ℕ = r2 ++ m .banked in
-      let r4 : List ℕ = r3 ++ m .fiq in
-      let r5 : List ℕ = r4 ++ m .user in
+  all-placed l h =
+      let w₁₆ : List ℕ = m .regs in
+      let w₂₃ : List ℕ = w₁₆ ++ map packedWord (recordsOf m) in
+      let w₃₀ : List ℕ = w₂₃ ++ map geNumber (recordsOf m) in
+      let w₄₂ : List ℕ = w₃₀ ++ m .banked in
+      let w₄₇ : List ℕ = w₄₂ ++ m .fiq in
+      let w₅₂ : List ℕ = w₄₇ ++ m .user in
       rw (
-        placed-join l 0 16 r (map packedWord (recordsOf m)) (omega arith),
-        placed-join l 0 23 r1 (map geNumber (recordsOf m)) (simp length-append (omega arith)),
-        placed-join l 0 30 r2 (m .banked) (simp length-append (omega arith)),
-        placed-join l 0 42 r3 (m .fiq) (simp length-append (omega arith)),
-        placed-join l 0 47 r4 (m .user) (simp length-append (omega arith)),
-        placed-join l 0 52 r5 (tagWords (m .tag)) (simp length-append (omega arith)),
+        placed-join l 0 16 w₁₆ (map packedWord (recordsOf m)) (omega arith),
+        placed-join l 0 23 w₂₃ (map geNumber (recordsOf m)) (simp length-append (omega arith)),
+        placed-join l 0 30 w₃₀ (m .banked) (simp length-append (omega arith)),
+        placed-join l 0 42 w₄₂ (m .fiq) (simp length-append (omega arith)),
+        placed-join l 0 47 w₄₇ (m .user) (simp length-append (omega arith)),
+        placed-join l 0 52 w₅₂ (tagWords (m .tag)) (simp length-append (omega arith)),
       )
       (placed-all l (stateWords m) (rw length-words h))

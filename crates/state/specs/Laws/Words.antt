@@ -37,10 +37,6 @@ sets-join : (l : List ℕ) (i j : ℕ) (xs ys : List ℕ) → i + length xs ≡ 
 sets-join l i j [] ys h = let e : j ≡ i = omega arith in rw e
 sets-join l i j (x ∷ xs) ys h = sets-join (set l i x) (suc i) j xs ys (omega arith)
 
--- a counter i on its way to n
-left-next : (n i : ℕ) → n - i - 1 ≡ n - (i + 1)
-left-next n i = omega arith
-
 from-next : (l : List ℕ) (i n : ℕ) → 0 < n → wordsFrom l i n ≡ word l i ∷ wordsFrom l (i + 1) (n - 1)
 unfolding wordsFrom
 from-next l i zero h = absurd (omega arith)
@@ -70,10 +66,11 @@ module _ {l : List ℕ} {from : ℕ} {before values : List ℕ} {i k : ℕ} (s :
   pub reading-next : i < length values → Reading l from before (set values i (word l k)) (i + 1) (k + 1)
   reading-next h =
       let n : length values ≡ length before = s .kept in
+      let left : length before - i - 1 ≡ length before - (i + 1) = omega arith in
       record {
         place = omega (arith, s .place);
         kept = length-set values i (word l k) ∙ n;
-        whole = sym (rw (from-next l k (length before - i) (omega arith), left-next (length before) i, add-one i)) ∙ s .whole;
+        whole = sym (rw (from-next l k (length before - i) (omega arith), left, add-one i)) ∙ s .whole;
       }
 
   pub reading-last : length values ≤ i → values ≡ wordsFrom l from (length before)
