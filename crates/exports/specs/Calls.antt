@@ -1,19 +1,15 @@
 -- What the exported functions hand over: numbers in, and two halves of 32 bits side by side out.
 use mathlib.Core.Bool.{Bool}
 use Prim.Native.Nat.{ℕ, _+_, _*_, _^_}
-use Rattle.bits.specs.Cases.{if_then_else_, _≤?_}
 use Rattle.bits.specs.Fields.{_⟨_‥_⟩, bitOf}
 use Rattle.psr.specs.Status.{statusOf, packedOf}
 use Rattle.psr.specs.With.{withGe}
+use Rattle.state.specs.State.{geByteOf}
 use Rattle.shifter.specs.declared.Operand.{Operand}
 use Rattle.shifter.specs.Shifts.{typeOf, byImmediateOf, byRegisterOf}
 
 abbrev pub halves : ℕ → ℕ → ℕ
 halves high low = high * 2 ^ 32 + low
-
--- a GE number of 32 bits as the byte of a record: what exceeds a byte exceeds 15 either way
-unfoldable pub geByteOf : ℕ → ℕ
-geByteOf ge = if ge ≤? 255 then ge else 255
 
 -- packing: the record of `word`, its GE replaced by `ge`; the answer's number above the word
 unfoldable pub packCallOf : ℕ → ℕ → ℕ

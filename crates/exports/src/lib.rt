@@ -1,6 +1,6 @@
 // The functions that a host in C or Rust links: the public calls on numbers.
 ghost use mathlib.Core.Path.{_≡_};
-ghost use Rattle.exports.specs.Calls.{halves, geByteOf, packCallOf, unpackCallOf, shiftImmediateCallOf, shiftRegisterCallOf};
+ghost use Rattle.exports.specs.Calls.{halves, packCallOf, unpackCallOf, shiftImmediateCallOf, shiftRegisterCallOf};
 
 fn join_halves(high: u32, low: u32) -> u64
     ensures { λ r. ⌜ r ≡ halves high low ⌝ }
@@ -8,18 +8,12 @@ fn join_halves(high: u32, low: u32) -> u64
     (high as u64) * 0x1_0000_0000 + low as u64
 }
 
-fn narrow_ge(ge: u32) -> u8
-    ensures { λ r. ⌜ r ≡ geByteOf ge ⌝ }
-{
-    if ge <= 255 { ge as u8 } else { 255 }
-}
-
 #[no_mangle]
 pub extern "C" fn tholungdek_pack(word: u32, ge: u32) -> u64
     ensures { λ r. ⌜ r ≡ packCallOf word ge ⌝ }
 {
     let mut s = psr::unpack(word);
-    s.ge = narrow_ge(ge);
+    s.ge = state::narrow_ge(ge);
     let p = psr::pack(s);
     join_halves(p.answer, p.word)
 }

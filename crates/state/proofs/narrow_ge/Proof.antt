@@ -1,8 +1,8 @@
 use borrow.Author.Needs.{needs}
 use Rattle.bits.specs.Cases.{cases}
-use Rattle.exports.specs.Calls.{geByteOf}
-use Rattle.exports.proofs.narrow_ge.Statement.{statement}
-use Rattle.exports.proofs.narrow_ge.Tie as tie
+use Rattle.state.specs.State.{geByteOf}
+use Rattle.state.proofs.narrow_ge.Statement.{statement}
+use Rattle.state.proofs.narrow_ge.Tie as tie
 
 pub narrow-ge-spec : {M : Type 1} → statement M
 unfolding geByteOf

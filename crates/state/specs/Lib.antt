@@ -1,0 +1,3 @@
+pub mod State
+pub mod Valid
+pub mod Laws
