@@ -135,12 +135,15 @@ impl Checker {
     }
 
     /// Also looks at the Rust's own step.
-    pub fn check_step(&mut self, step: Step) -> Result<(), String> {
+    pub fn check_step(&mut self, step: Step) -> Outcome {
         let wanted = self.check(&step)?;
-        match beside(&step, &wanted) {
-            Some(Beside::Apart) => Err(format!("  Cpu::step and document 01 part: {step}")),
+        let family = step.decoded(&wanted);
+        let opcode = step.opcode();
+        match beside(step, &wanted) {
+            Some(Beside::Apart) => {
+                Err(format!("  Cpu::step parts from document 01: {opcode:08X?}"))
+            }
             Some(found) => {
-                let family = step.decoded(&wanted);
                 self.tally.steps.count_beside(found, family);
                 Ok(())
             }

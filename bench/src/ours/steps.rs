@@ -1,4 +1,4 @@
-//! The proved steps and runs, on lent bytes with fences around them.
+//! The proved steps and runs, on lent bytes with a fence behind them.
 
 use crate::replies::{Answer, Left};
 use crate::state::{from_bytes, to_bytes, word_at, State, BYTES};
@@ -84,34 +84,34 @@ pub fn call(_: Call, _: &mut [u8], _: &mut [u8], _: &mut [u8]) -> u32 {
 pub const UNWRITTEN: u8 = 0xA5;
 const FENCE: usize = 32;
 
-/// Bytes to lend, with a fence on either side.
+/// Bytes to lend, with a fence behind them.
 pub struct Fenced {
     bytes: Vec<u8>,
 }
 
 impl Fenced {
     pub fn new(inner: &[u8]) -> Fenced {
-        let mut bytes = Vec::with_capacity(inner.len() + 2 * FENCE);
-        bytes.extend([UNWRITTEN; FENCE]);
+        let mut bytes = Vec::with_capacity(inner.len() + FENCE);
         bytes.extend(inner);
         bytes.extend([UNWRITTEN; FENCE]);
         Fenced { bytes }
     }
 
+    fn end(&self) -> usize {
+        self.bytes.len() - FENCE
+    }
+
     pub fn inner(&mut self) -> &mut [u8] {
-        let end = self.bytes.len() - FENCE;
-        &mut self.bytes[FENCE..end]
+        let end = self.end();
+        &mut self.bytes[..end]
     }
 
     pub fn spilt(&self) -> bool {
-        let end = self.bytes.len() - FENCE;
-        let mut fences = self.bytes[..FENCE].iter().chain(&self.bytes[end..]);
-        fences.any(|&byte| byte != UNWRITTEN)
+        self.bytes[self.end()..] != [UNWRITTEN; FENCE]
     }
 
     fn into_inner(mut self) -> Vec<u8> {
-        self.bytes.truncate(self.bytes.len() - FENCE);
-        self.bytes.drain(..FENCE);
+        self.bytes.truncate(self.end());
         self.bytes
     }
 }
@@ -186,7 +186,7 @@ mod tests {
         let mut fenced = Fenced::new(&[1, 2, 3]);
         fenced.inner()[2] = 9;
         assert!(!fenced.spilt());
-        fenced.bytes[FENCE + 3] = 0;
+        fenced.bytes[3] = 0;
         assert!(fenced.spilt());
         assert_eq!(fenced.into_inner(), [1, 2, 9]);
     }

@@ -34,20 +34,19 @@ fn same_but_pc(a: &State, b: &State) -> bool {
     a == *b
 }
 
-/// `None` outside the domain of equality: answers 0 to 3.
-pub fn beside(step: &Step, wanted: &Left) -> Option<Beside> {
+/// `None` outside the domain of equality: answers 0 to 3. The step's memory is used up.
+pub fn beside(mut step: Step, wanted: &Left) -> Option<Beside> {
     if wanted.answer.number > 3 {
         return None;
     }
     let opcode = step.opcode()?;
     let mut cpu = import_state(&step.state)?;
-    let mut memory = step.memory.clone();
-    let exit = cpu.step(&mut Lent::new(&mut memory, opcode));
+    let exit = cpu.step(&mut Lent::new(&mut step.memory, opcode));
     let left = export_state(&cpu);
     let state = canonical(&wanted.state)?;
     let next = step.state[PC].wrapping_add(4);
     let same = answer_of(exit) == Some(wanted.answer)
-        && memory == wanted.memory
+        && step.memory == wanted.memory
         && same_but_pc(&left, &state);
     Some(match wanted.answer.number {
         _ if !same => Beside::Apart,
@@ -72,7 +71,8 @@ mod tests {
             state,
             memory: vec![0; 0x200],
         };
-        beside(&step, &step.wanted())
+        let wanted = step.wanted();
+        beside(step, &wanted)
     }
 
     #[test]

@@ -163,9 +163,12 @@ impl Step {
 
 const ALWAYS: u32 = 0xE000_0000;
 
-/// Condition 14 counts as the simplest.
+/// Condition 14 counts as the simplest, and is tried first.
 fn simpler_opcodes(opcode: u32) -> impl Iterator<Item = u32> {
-    below(opcode ^ ALWAYS).into_iter().map(|w| w ^ ALWAYS)
+    let always = opcode & 0x0FFF_FFFF | ALWAYS;
+    let unconditioned = (opcode != always).then_some(always);
+    let others = below(opcode ^ ALWAYS).into_iter().map(|w| w ^ ALWAYS);
+    unconditioned.into_iter().chain(others)
 }
 
 /// Everything at once, then word by word. System mode counts as the simplest.

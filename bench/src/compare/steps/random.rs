@@ -70,12 +70,12 @@ impl Source {
 
 /// Mostly short, some long, at times the longest, at times too long.
 fn length(rng: &mut Rng) -> usize {
-    let length = match rng.below(100) {
-        0..=3 => rng.below(12),
-        4..=35 => rng.below(80),
-        36..=85 => rng.below(1025),
-        86..=96 => rng.below(LONGEST as u32 + 1),
-        97..=98 => LONGEST as u32,
+    let length = match rng.below(200) {
+        0..=7 => rng.below(12),
+        8..=79 => rng.below(80),
+        80..=191 => rng.below(1025),
+        192..=196 => rng.below(LONGEST as u32 + 1),
+        197..=198 => LONGEST as u32,
         _ => LONGEST as u32 + 1,
     };
     length as usize
