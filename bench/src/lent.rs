@@ -26,6 +26,10 @@ impl<'a> Lent<'a> {
         self.outside
     }
 
+    pub fn memory(&self) -> &[u8] {
+        self.memory
+    }
+
     /// Puts back every byte that was written.
     pub fn undo(&mut self) {
         while let Some((at, byte)) = self.written.pop() {

@@ -9,13 +9,15 @@ mod oracle;
 mod ours;
 mod replies;
 mod rng;
+mod speed;
 mod state;
 
 use std::env;
 use std::process::ExitCode;
 
 const USAGE: &str = "usage: compare [--short] [--seed N] [--cases N] \
-                     [--only shifts|status|steps|programs] [--resume FILE --total N]";
+                     [--only shifts|status|steps|programs] [--resume FILE --total N]
+       speed [--turns N]";
 
 /// A number, hexadecimal after 0x.
 fn number(word: Option<&String>) -> Result<u64, String> {
@@ -58,10 +60,24 @@ fn compare_options(words: &[String]) -> Result<compare::Options, String> {
     Ok(options)
 }
 
+fn speed_options(words: &[String]) -> Result<speed::Options, String> {
+    match words {
+        [] => Ok(speed::Options::default()),
+        [word, turns] if word == "--turns" => match number(Some(turns))? {
+            0 => Err("a turn is needed".to_string()),
+            turns => Ok(speed::Options {
+                turns: turns as u32,
+            }),
+        },
+        _ => Err("only --turns N is known".to_string()),
+    }
+}
+
 /// Whether the command found all as it should be.
 fn obey(words: &[String]) -> Result<bool, String> {
     match words.split_first() {
         Some((command, rest)) if command == "compare" => compare::run(&compare_options(rest)?),
+        Some((command, rest)) if command == "speed" => speed::run(&speed_options(rest)?),
         _ => Err("a command is missing".to_string()),
     }
 }

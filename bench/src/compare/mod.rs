@@ -135,15 +135,12 @@ impl Checker {
     }
 
     /// Also looks at the Rust's own step.
-    pub fn check_step(&mut self, step: Step) -> Outcome {
+    pub fn check_step(&mut self, mut step: Step) -> Outcome {
         let wanted = self.check(&step)?;
-        let family = step.decoded(&wanted);
-        let opcode = step.opcode();
-        match beside(step, &wanted) {
-            Some(Beside::Apart) => {
-                Err(format!("  Cpu::step parts from document 01: {opcode:08X?}"))
-            }
+        match beside(&mut step, &wanted) {
+            Some(Beside::Apart) => Err(steps::beside::report(&step)),
             Some(found) => {
+                let family = step.decoded(&wanted);
                 self.tally.steps.count_beside(found, family);
                 Ok(())
             }

@@ -1,7 +1,9 @@
 //! The Rust's own `Cpu::step` beside document 01's rule.
 
 use super::Step;
+use crate::compare::Case;
 use crate::lent::Lent;
+use crate::minimise::smallest;
 use crate::replies::{Answer, Left};
 use crate::state::{canonical, export_state, import_state, State, PC};
 use zakuro_cpu::Exit;
@@ -34,20 +36,21 @@ fn same_but_pc(a: &State, b: &State) -> bool {
     a == *b
 }
 
-/// `None` outside the domain of equality: answers 0 to 3. The step's memory is used up.
-pub fn beside(mut step: Step, wanted: &Left) -> Option<Beside> {
+/// `None` outside the domain of equality: answers 0 to 3. The memory is put back.
+pub fn beside(step: &mut Step, wanted: &Left) -> Option<Beside> {
     if wanted.answer.number > 3 {
         return None;
     }
     let opcode = step.opcode()?;
     let mut cpu = import_state(&step.state)?;
-    let exit = cpu.step(&mut Lent::new(&mut step.memory, opcode));
+    let mut lent = Lent::new(&mut step.memory, opcode);
+    let exit = cpu.step(&mut lent);
+    let kept = lent.memory() == wanted.memory;
+    lent.undo();
     let left = export_state(&cpu);
     let state = canonical(&wanted.state)?;
     let next = step.state[PC].wrapping_add(4);
-    let same = answer_of(exit) == Some(wanted.answer)
-        && step.memory == wanted.memory
-        && same_but_pc(&left, &state);
+    let same = kept && answer_of(exit) == Some(wanted.answer) && same_but_pc(&left, &state);
     Some(match wanted.answer.number {
         _ if !same => Beside::Apart,
         2 | 3 if left[PC] == next => Beside::Stopped,
@@ -57,22 +60,31 @@ pub fn beside(mut step: Step, wanted: &Left) -> Option<Beside> {
     })
 }
 
+fn is_apart(step: &Step) -> bool {
+    beside(&mut step.clone(), &step.wanted()) == Some(Beside::Apart)
+}
+
+/// What the Rust's own step does otherwise, on the smallest step that shows it.
+pub fn report(found: &Step) -> String {
+    let least = smallest(found.clone(), Step::smaller, is_apart);
+    format!("  Cpu::step parts from document 01\n  found     {found}\n  smallest  {least}")
+}
+
 #[cfg(test)]
 mod tests {
-    use super::super::Case;
     use super::*;
     use crate::state::plain;
 
     fn told(opcode: u32) -> Option<Beside> {
         let mut state = plain(0x100);
         (state[1], state[2]) = (3, 5);
-        let step = Step {
+        let mut step = Step {
             given: Some(opcode),
             state,
             memory: vec![0; 0x200],
         };
         let wanted = step.wanted();
-        beside(step, &wanted)
+        beside(&mut step, &wanted)
     }
 
     #[test]

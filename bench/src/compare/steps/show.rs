@@ -53,7 +53,8 @@ impl Row {
             ours,
             wanted,
         } = self;
-        format!("  {name:<10} {before:<20} {ours:<20} {wanted:<20}{mark}")
+        let line = format!("  {name:<10} {before:<20} {ours:<20} {wanted:<20}{mark}");
+        line.trim_end().to_string()
     }
 }
 
