@@ -10,6 +10,10 @@ pub const SPSR: usize = 17;
 /// The seven status words, and after them the seven GE numbers.
 pub const RECORDS: std::ops::Range<usize> = 16..23;
 pub const GES: std::ops::Range<usize> = 23..30;
+/// r13 and r14 of each bank, then r8 to r12 of FIQ and of the rest.
+pub const BANKS: std::ops::Range<usize> = 30..42;
+pub const FIQ: usize = 42;
+pub const OTHER: usize = 47;
 pub const TAG: usize = 52;
 pub const TAG_ADDRESS: usize = 53;
 

@@ -235,7 +235,7 @@ fn compare_programs(checker: &mut Checker, options: &Options) -> Outcome {
 fn resume(checker: &mut Checker, options: &Options, resume: &Resume) -> Outcome {
     let source = Source::new();
     let Done { seed, cases } = Done::read(&resume.file, options.seed)?;
-    println!("compare: seed {seed:#X}, {cases} steps were done before");
+    println!("compare: seed {seed:#X}, {cases} random steps were equal before");
     checker.phase = Phase::Random;
     let told = |cases| Done { seed, cases }.write(&resume.file);
     in_blocks("steps", seed, cases, resume.total, told, |rng| {
@@ -244,6 +244,7 @@ fn resume(checker: &mut Checker, options: &Options, resume: &Resume) -> Outcome 
 }
 
 fn all(checker: &mut Checker, options: &Options) -> Outcome {
+    println!("compare: seed {:#X}", options.seed);
     type Comparison = fn(&mut Checker, &Options) -> Outcome;
     let comparisons: [(Kind, Comparison, bool); 4] = [
         (Kind::Shifts, compare_shifts, true),
@@ -273,7 +274,6 @@ pub fn run(options: &Options) -> Result<bool, String> {
     if steps_only && !ours::steps::LINKED {
         return Err("the archive has no steps".to_string());
     }
-    println!("compare: seed {:#X}", options.seed);
     let mut checker = Checker::new();
     let outcome = match &options.resume {
         Some(file) => resume(&mut checker, options, file),

@@ -102,6 +102,8 @@ pub struct Steps {
     by_family: Vec<[u64; ANSWERS]>,
     by_phase: [u64; 2],
     given: u64,
+    /// Steps whose condition failed.
+    pub failed: u64,
     departures: [u64; departures::COUNT],
     beside: [u64; 3],
     raw_by_family: Vec<u64>,
@@ -204,10 +206,11 @@ impl fmt::Display for Steps {
         self.families(f)?;
         let [directed, random] = self.by_phase;
         let fetched = self.all() - self.given;
+        let Steps { given, failed, .. } = self;
         writeln!(
             f,
-            "  steps directed {directed}, random {random}; opcode given {}, fetched {fetched}",
-            self.given
+            "  steps directed {directed}, random {random}; opcode given {given}, \
+             fetched {fetched}; condition failed {failed}"
         )?;
         let met: Vec<String> = (1..)
             .zip(self.departures)

@@ -2,9 +2,10 @@
 
 use super::{Program, MOST_STEPS};
 use crate::compare::steps::Source;
+use crate::expected::LONGEST;
 use crate::opcodes;
 use crate::rng::Rng;
-use crate::state::{self, canonical, plain, State, MODES, PC};
+use crate::state::{self, canonical, plain, State, BANKS, FIQ, MODES, OTHER, PC};
 
 pub fn program(rng: &mut Rng, source: &Source) -> Program {
     if rng.chance(4) {
@@ -41,7 +42,14 @@ const WORK: u32 = 8;
 /// r8 points into the data, r9 too, r13 to a stack.
 const DATA: u32 = 0x400;
 const STACK: u32 = 0x700;
-const LENGTH: usize = 0x800;
+const SHORTEST: u32 = 0x800;
+
+/// Mostly the shortest; any length beyond changes nothing but the bytes to keep.
+fn length(rng: &mut Rng) -> usize {
+    let more = LONGEST as u32 + 1 - SHORTEST;
+    let length = SHORTEST + if rng.chance(8) { rng.below(more) } else { 0 };
+    length as usize
+}
 
 /// A loop over work registers and data that meets most families and goes round.
 fn tame(rng: &mut Rng, source: &Source) -> Program {
@@ -51,7 +59,8 @@ fn tame(rng: &mut Rng, source: &Source) -> Program {
         words[i as usize] = tame_word(rng, body - i);
     }
     words.push(back(body));
-    let mut memory = source.memory(rng, LENGTH);
+    let length = length(rng);
+    let mut memory = source.memory(rng, length);
     for (place, word) in memory.chunks_exact_mut(4).zip(&words) {
         place.copy_from_slice(&word.to_le_bytes());
     }
@@ -72,11 +81,13 @@ fn tame_state(rng: &mut Rng) -> State {
     for word in &mut state[..WORK as usize] {
         *word = rng.word();
     }
-    (state[8], state[9], state[13]) = (DATA, DATA + 0x100 + rng.below(4), STACK);
-    state[state::CPSR] = rng.word() & 0xF800_03C0 | rng.pick(&MODES);
-    for i in 30..42 {
-        state[i] = STACK;
+    let bases = [DATA, DATA + 0x100 + rng.below(4)];
+    for first in [8, FIQ, OTHER] {
+        state[first..first + 2].copy_from_slice(&bases);
     }
+    state[13] = STACK;
+    state[state::CPSR] = rng.word() & 0xF800_03C0 | rng.pick(&MODES);
+    state[BANKS].fill(STACK);
     state
 }
 
@@ -205,13 +216,15 @@ fn exclusive(rng: &mut Rng) -> u32 {
     }
 }
 
-/// MRS, and MSR of flags, GE and E.
+/// MRS, MSR of flags, GE and E, and ways into other modes and back.
 fn status(rng: &mut Rng) -> u32 {
     let (saved, fields) = (rng.below(2) << 22, rng.below(8) << 17);
-    match rng.below(3) {
-        0 => on_work(rng, 0x010F_0000 | saved, &[12]),
-        1 => on_work(rng, 0x0120_F000 | fields, &[0]),
-        _ => 0x0328_F000 | rng.below(0x1000),
+    match rng.below(8) {
+        0..=2 => on_work(rng, 0x010F_0000 | saved, &[12]),
+        3..=4 => on_work(rng, 0x0120_F000 | fields, &[0]),
+        5 => 0x0328_F000 | rng.below(0x1000),
+        6 => 0xF102_0000 | rng.pick(&MODES[1..]),
+        _ => 0x025F_F004, // SUBS pc, pc, #4: on to the next word, by the saved record
     }
 }
 

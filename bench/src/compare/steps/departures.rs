@@ -4,7 +4,7 @@ use super::Step;
 use crate::opcodes::{bit, field, register, Family};
 use crate::replies::Left;
 use crate::state::{import_state, CPSR, E, PC, SPSR, T, TAG};
-use zakuro_cpu::{arm, Bus};
+use zakuro_cpu::{arm, check_condition, Bus, Psr};
 
 pub const COUNT: usize = 9;
 
@@ -33,8 +33,17 @@ pub fn met(step: &Step, left: &Left) -> Met {
 fn executed(step: &Step, left: &Left) -> Option<(u32, Family)> {
     let family = step.decoded(left)?;
     let opcode = step.opcode()?;
-    let flags = zakuro_cpu::Psr::from_bits(step.state[CPSR]);
-    zakuro_cpu::check_condition(opcode >> 28, &flags).then_some((opcode, family))
+    passes(step, opcode).then_some((opcode, family))
+}
+
+fn passes(step: &Step, opcode: u32) -> bool {
+    check_condition(opcode >> 28, &Psr::from_bits(step.state[CPSR]))
+}
+
+/// Whether the step answered 0 because its condition failed.
+pub fn condition_failed(step: &Step, left: &Left) -> bool {
+    let opcode = step.opcode().filter(|_| left.answer.number == 0);
+    opcode.is_some_and(|opcode| !passes(step, opcode))
 }
 
 /// D1, where it shows.

@@ -107,6 +107,7 @@ impl Case for Step {
         let steps = &mut tally.steps;
         steps.count(self.decoded(left), number, phase, self.given.is_some());
         steps.count_departures(met);
+        steps.failed += u64::from(departures::condition_failed(self, left));
     }
 
     /// Shorter and emptier memory first, then the opcode, then the state.
