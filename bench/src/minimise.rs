@@ -1,11 +1,19 @@
 //! Finding a small case that still fails, by greedy steps down.
 
+type Smaller<'a, C> = Box<dyn Iterator<Item = C> + 'a>;
+
 /// Takes the first smaller case that still fails, until none does.
-pub fn smallest<C>(mut case: C, smaller: impl Fn(&C) -> Vec<C>, fails: impl Fn(&C) -> bool) -> C {
-    while let Some(next) = smaller(&case).into_iter().find(&fails) {
+pub fn smallest<C>(
+    mut case: C,
+    smaller: impl Fn(&C) -> Smaller<'_, C>,
+    fails: impl Fn(&C) -> bool,
+) -> C {
+    loop {
+        let Some(next) = smaller(&case).find(&fails) else {
+            return case;
+        };
         case = next;
     }
-    case
 }
 
 /// Smaller words to try, boldest first: 0, the half, one bit less, one less.
@@ -29,7 +37,7 @@ mod tests {
     use super::*;
 
     fn smallest_word(from: u32, fails: impl Fn(u32) -> bool) -> u32 {
-        smallest(from, |&w| below(w), |&w| fails(w))
+        smallest(from, |&w| Box::new(below(w).into_iter()), |&w| fails(w))
     }
 
     #[test]

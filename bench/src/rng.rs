@@ -7,6 +7,12 @@ impl Rng {
         Rng(seed)
     }
 
+    /// One of many generators of a seed, by its number.
+    pub fn stream(seed: u64, number: u64) -> Rng {
+        let (a, b) = (Rng(seed).next(), Rng(!number).next());
+        Rng(a ^ b.rotate_left(32))
+    }
+
     fn next(&mut self) -> u64 {
         self.0 = self.0.wrapping_add(0x9E37_79B9_7F4A_7C15);
         let z = (self.0 ^ (self.0 >> 30)).wrapping_mul(0xBF58_476D_1CE4_E5B9);
@@ -27,6 +33,15 @@ impl Rng {
         ((u64::from(self.word()) * u64::from(n)) >> 32) as u32
     }
 
+    /// True once in `n` times.
+    pub fn chance(&mut self, n: u32) -> bool {
+        self.below(n) == 0
+    }
+
+    pub fn pick<T: Copy>(&mut self, from: &[T]) -> T {
+        from[self.below(from.len() as u32) as usize]
+    }
+
     /// Below `n` half the time, else any word.
     pub fn often_below(&mut self, n: u32) -> u32 {
         if self.flip() {
@@ -38,8 +53,8 @@ impl Rng {
 
     /// One of `from` a quarter of the time, else any word.
     pub fn sometimes_of(&mut self, from: &[u32]) -> u32 {
-        if self.below(4) == 0 {
-            from[self.below(from.len() as u32) as usize]
+        if self.chance(4) {
+            self.pick(from)
         } else {
             self.word()
         }
@@ -62,6 +77,16 @@ mod tests {
                 9817491932198370423
             ]
         );
+    }
+
+    #[test]
+    fn streams_differ_and_repeat() {
+        let first = |seed, number| Rng::stream(seed, number).next();
+        assert_eq!(first(1, 2), first(1, 2));
+        let mut all: Vec<u64> = (0..100).map(|n| first(n / 10, n % 10)).collect();
+        all.sort();
+        all.dedup();
+        assert_eq!(all.len(), 100);
     }
 
     #[test]

@@ -1,7 +1,7 @@
 //! Cases of the two shifts.
 
-use super::tally::Row;
-use super::{Case, Checker};
+use super::tally::{Phase, Row, Tally};
+use super::{on_two_lines, Case, Checker};
 use crate::minimise::below;
 use crate::replies::Shifted;
 use crate::rng::Rng;
@@ -43,11 +43,12 @@ impl fmt::Display for Shift {
 impl Case for Shift {
     type Reply = Shifted;
 
-    fn row(&self) -> Row {
-        match self.form {
+    fn count(&self, _: &Shifted, phase: Phase, tally: &mut Tally) {
+        let row = match self.form {
             Form::Immediate => Row::ShiftImmediate,
             Form::Register => Row::ShiftRegister,
-        }
+        };
+        tally.count(row, phase);
     }
 
     fn ours(&self) -> Shifted {
@@ -66,7 +67,11 @@ impl Case for Shift {
         call(self.kind, self.value, self.amount, self.carry)
     }
 
-    fn smaller(&self) -> Vec<Shift> {
+    fn contrast(&self, ours: &Shifted, wanted: &Shifted) -> String {
+        on_two_lines(ours, wanted)
+    }
+
+    fn smaller(&self) -> Box<dyn Iterator<Item = Shift> + '_> {
         let carry = self.carry.then_some(Shift {
             carry: false,
             ..*self
@@ -74,12 +79,12 @@ impl Case for Shift {
         let kinds = below(self.kind).into_iter();
         let amounts = below(self.amount).into_iter();
         let values = below(self.value).into_iter();
-        carry
+        let smaller = carry
             .into_iter()
             .chain(kinds.map(|kind| Shift { kind, ..*self }))
             .chain(amounts.map(|amount| Shift { amount, ..*self }))
-            .chain(values.map(|value| Shift { value, ..*self }))
-            .collect()
+            .chain(values.map(|value| Shift { value, ..*self }));
+        Box::new(smaller)
     }
 }
 
@@ -145,7 +150,7 @@ fn directed_by(form: Form, checker: &mut Checker) -> Result<(), String> {
         for amount in (0..=0xFF).chain(LONG_AMOUNTS) {
             for &value in &values {
                 for carry in [false, true] {
-                    checker.check(Shift {
+                    checker.check(&Shift {
                         form,
                         kind,
                         value,

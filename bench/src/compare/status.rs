@@ -1,17 +1,17 @@
 //! Cases of packing and unpacking a status record.
 
-use super::tally::Row;
-use super::{Case, Checker};
+use super::tally::{Phase, Row, Tally};
+use super::{on_two_lines, Case, Checker};
 use crate::minimise::below;
 use crate::replies::{Packed, Unpacked};
 use crate::rng::Rng;
+use crate::state::GE_MAX;
 use crate::{oracle, ours};
 use std::fmt;
 
 /// Document 01, section 2: packing answers 8, with the word 0.
 const REFUSED: Packed = Packed { answer: 8, word: 0 };
 
-const GE_MAX: u32 = 15;
 const GE_BITS: u32 = 0x000F_0000;
 /// The bits of a packed word that hold nothing.
 const DROPPED: u32 = 0x07F0_FC00;
@@ -31,12 +31,13 @@ impl fmt::Display for Pack {
 impl Case for Pack {
     type Reply = Packed;
 
-    fn row(&self) -> Row {
-        if self.ge > GE_MAX {
+    fn count(&self, _: &Packed, phase: Phase, tally: &mut Tally) {
+        let row = if self.ge > GE_MAX {
             Row::PackRefused
         } else {
             Row::Pack
-        }
+        };
+        tally.count(row, phase);
     }
 
     fn ours(&self) -> Packed {
@@ -47,12 +48,15 @@ impl Case for Pack {
         oracle::pack(self.word, self.ge).unwrap_or(REFUSED)
     }
 
-    fn smaller(&self) -> Vec<Pack> {
+    fn contrast(&self, ours: &Packed, wanted: &Packed) -> String {
+        on_two_lines(ours, wanted)
+    }
+
+    fn smaller(&self) -> Box<dyn Iterator<Item = Pack> + '_> {
         let ges = below(self.ge).into_iter();
         let words = below(self.word).into_iter();
-        ges.map(|ge| Pack { ge, ..*self })
-            .chain(words.map(|word| Pack { word, ..*self }))
-            .collect()
+        let smaller = ges.map(|ge| Pack { ge, ..*self });
+        Box::new(smaller.chain(words.map(|word| Pack { word, ..*self })))
     }
 }
 
@@ -70,8 +74,8 @@ impl fmt::Display for Unpack {
 impl Case for Unpack {
     type Reply = Unpacked;
 
-    fn row(&self) -> Row {
-        Row::Unpack
+    fn count(&self, _: &Unpacked, phase: Phase, tally: &mut Tally) {
+        tally.count(Row::Unpack, phase);
     }
 
     fn ours(&self) -> Unpacked {
@@ -82,9 +86,13 @@ impl Case for Unpack {
         oracle::unpack(self.word)
     }
 
-    fn smaller(&self) -> Vec<Unpack> {
+    fn contrast(&self, ours: &Unpacked, wanted: &Unpacked) -> String {
+        on_two_lines(ours, wanted)
+    }
+
+    fn smaller(&self) -> Box<dyn Iterator<Item = Unpack> + '_> {
         let words = below(self.word).into_iter();
-        words.map(|word| Unpack { word }).collect()
+        Box::new(words.map(|word| Unpack { word }))
     }
 }
 
@@ -112,7 +120,7 @@ const LARGE_GES: [u32; 8] = [
 
 fn pack_with_every_ge(word: u32, checker: &mut Checker) -> Result<(), String> {
     for ge in (0..=0xFF).chain(LARGE_GES) {
-        checker.check(Pack { word, ge })?;
+        checker.check(&Pack { word, ge })?;
     }
     Ok(())
 }
@@ -120,7 +128,7 @@ fn pack_with_every_ge(word: u32, checker: &mut Checker) -> Result<(), String> {
 fn unpack_with_every_ge(word: u32, checker: &mut Checker) -> Result<(), String> {
     for ge in 0..=GE_MAX {
         let word = word & !GE_BITS | ge << 16;
-        checker.check(Unpack { word })?;
+        checker.check(&Unpack { word })?;
     }
     Ok(())
 }

@@ -55,9 +55,9 @@ pub fn import_state(words: &Packed) -> Option<Cpu> {
     Some(cpu)
 }
 
-/// Whether the instruction just executed set r15 for good.
-pub fn branched(cpu: &Cpu) -> bool {
-    cpu.branched
+/// Whether the instruction just executed set r15 for good; the next one starts anew.
+pub fn take_branched(cpu: &mut Cpu) -> bool {
+    std::mem::take(&mut cpu.branched)
 }
 
 /// The Rust keeps a sixth banked record that it never reads or writes.
@@ -178,8 +178,10 @@ mod tests {
 
     #[test]
     fn a_branch_is_told_from_a_raw_write() {
-        assert!(branched(&executed(0xEA00_0000))); // B
-        assert!(!branched(&executed(0xE16F_FF11))); // CLZ r15, r1
+        let mut branch = executed(0xEA00_0000); // B
+        assert!(take_branched(&mut branch));
+        assert!(!take_branched(&mut branch));
+        assert!(!take_branched(&mut executed(0xE16F_FF11))); // CLZ r15, r1
     }
 
     #[test]

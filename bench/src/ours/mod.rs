@@ -1,5 +1,7 @@
 //! The proved calls, as the linked archive gives them.
 
+pub mod steps;
+
 use crate::replies::{Packed, Shifted, Unpacked};
 
 // Nothing checks these against the exports: keep the two side by side.
