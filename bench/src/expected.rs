@@ -77,7 +77,7 @@ fn advance(cpu: &mut Cpu, memory: &mut [u8], given: Option<u32>) -> Answer {
 /// The opcode at A, where A is a multiple of 4 and A + 4, not wrapped, is inside.
 pub fn fetched(memory: &[u8], at: u32) -> Option<u32> {
     let at = at as usize;
-    (at % 4 == 0 && at + 4 <= memory.len()).then(|| word_at(memory, at))
+    (at.is_multiple_of(4) && at + 4 <= memory.len()).then(|| word_at(memory, at))
 }
 
 /// The Rust's turn; after any answer but 0 and 1 all is as before.

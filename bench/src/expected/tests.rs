@@ -164,10 +164,7 @@ fn answers_come_in_order() {
 fn fetching_stops_at_the_end() {
     let mut memory = vec![0; 8];
     let mut answer = |at| step(&mut plain(at), &mut memory).number;
-    assert_eq!(
-        [0, 4, 5, 8, 0xFFFF_FFFC].map(|at| answer(at)),
-        [0, 0, 6, 6, 6]
-    );
+    assert_eq!([0, 4, 5, 8, 0xFFFF_FFFC].map(&mut answer), [0, 0, 6, 6, 6]);
 }
 
 #[test]

@@ -90,38 +90,46 @@ impl Pair {
         }
     }
 
-    fn rust(&mut self) -> Duration {
+    fn rust(&mut self) -> Result<Duration, String> {
         let begun = Instant::now();
         let exit = self.cpu.run(&mut self.bytes, self.budget.into());
         let took = begun.elapsed();
-        assert_eq!(exit, Exit::Timeout, "an image loops");
-        took
+        match exit {
+            Exit::Timeout => Ok(took),
+            other => Err(format!("the Rust ended with {other:?}")),
+        }
     }
 
-    fn ours(&mut self) -> Duration {
+    fn ours(&mut self) -> Result<Duration, String> {
         let begun = Instant::now();
         let returned = self.machine.call(Call::Run(self.budget));
         let took = begun.elapsed();
-        let answer = self.machine.answer().number;
-        let ended = (returned, answer, self.machine.count());
-        assert_eq!(ended, (1, 10, self.budget), "an image loops");
-        took
+        let (answer, count) = (self.machine.answer(), self.machine.count());
+        if (returned, answer.number, count) == (1, 10, self.budget) {
+            Ok(took)
+        } else {
+            Err(format!(
+                "ours returned {returned}, {answer} after {count} steps"
+            ))
+        }
     }
 
-    /// The least that either took, in turns, and whether both ended alike.
+    /// The least that either took, in turns. Both must stand alike after the first and the last.
     fn best(mut self, turns: u32) -> Result<Best, String> {
         let mut best = Best {
-            rust: Duration::MAX,
-            ours: Duration::MAX,
+            rust: self.rust()?,
+            ours: self.ours()?,
         };
-        for _ in 0..turns {
-            best.rust = best.rust.min(self.rust());
-            best.ours = best.ours.min(self.ours());
+        self.stand_alike()?;
+        for _ in 1..turns {
+            best.rust = best.rust.min(self.rust()?);
+            best.ours = best.ours.min(self.ours()?);
         }
-        self.ended_alike().map(|()| best)
+        self.stand_alike()?;
+        Ok(best)
     }
 
-    fn ended_alike(&mut self) -> Result<(), String> {
+    fn stand_alike(&mut self) -> Result<(), String> {
         let (rust, ours) = (export_state(&self.cpu), self.machine.state());
         if let Some(i) = apart(&rust, &ours) {
             let name = name(i);

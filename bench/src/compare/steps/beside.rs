@@ -97,4 +97,22 @@ mod tests {
         assert_eq!(told(0xE120_0070), Some(Beside::Stopped)); // BKPT
         assert_eq!(told(0xEE10_0F10), None); // MRC p15
     }
+
+    #[test]
+    fn any_other_word_or_byte_is_apart() {
+        let mut step = Step {
+            given: Some(0xE581_2000), // STR r2, [r1]
+            state: plain(0x100),
+            memory: vec![0; 8],
+        };
+        step.state[2] = 7;
+        let wanted = step.wanted();
+        assert_eq!(beside(&mut step, &wanted), Some(Beside::Same));
+        let (mut word, mut byte) = (wanted.clone(), wanted);
+        word.state[40] = 1;
+        byte.memory[0] = 8;
+        assert_eq!(beside(&mut step, &word), Some(Beside::Apart));
+        assert_eq!(beside(&mut step, &byte), Some(Beside::Apart));
+        assert_eq!(step.memory, [0; 8]);
+    }
 }

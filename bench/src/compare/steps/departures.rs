@@ -25,7 +25,7 @@ pub fn met(step: &Step, left: &Left) -> Met {
         done && leaves_64_bits(step, opcode, family),
         done && is_transfer(family) && aligns_or_swaps(step, opcode),
         done && family == Family::StatusMove && drops_t_or_j(step, opcode),
-        matches!(left.answer.number, 1 | 2 | 3),
+        matches!(left.answer.number, 1..=3),
     ]
 }
 
@@ -124,7 +124,7 @@ struct Looking {
 impl Looking {
     fn see(&mut self, addr: u32, size: u32) {
         self.wide |= size > 1;
-        self.misaligned |= addr % size != 0;
+        self.misaligned |= !addr.is_multiple_of(size);
     }
 }
 
