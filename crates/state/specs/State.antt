@@ -35,7 +35,7 @@ geByteOf ge = if ge ≤? 255 then ge else 255
 abbrev pub recordAt : List ℕ → ℕ → Status
 recordAt l i = withGe (statusOf (word l i)) (geByteOf (word l (i + 7)))
 
--- the tag of word 52, present or not, and word 53, its address
+-- the tag: word 52 says whether there is one, word 53 is its address
 unfoldable pub tagOf : List ℕ → Tag
 tagOf l = if word l 52 == 0 then None else At (word l 53)
 
@@ -53,49 +53,50 @@ stateOf l =
       tag = tagOf l;
     }
 
--- the seven status records: current, saved, and those of FIQ, IRQ, Supervisor, Abort, Undefined
-abbrev pub bankedRecord : Machine → ℕ → Status
-bankedRecord m b = getD (m .saved) b noStatus
+-- the banked status records, 0 to 4: FIQ, IRQ, Supervisor, Abort, Undefined
+abbrev pub bankedRecordOf : Machine → ℕ → Status
+bankedRecordOf m b = getD (m .saved) b noStatus
 
+-- the seven status records: current, saved, banked
 abbrev pub recordsOf : Machine → List Status
 recordsOf m =
     m .cpsr
     ∷ m .spsr
-    ∷ bankedRecord m 0
-    ∷ bankedRecord m 1
-    ∷ bankedRecord m 2
-    ∷ bankedRecord m 3
-    ∷ bankedRecord m 4
+    ∷ bankedRecordOf m 0
+    ∷ bankedRecordOf m 1
+    ∷ bankedRecordOf m 2
+    ∷ bankedRecordOf m 3
+    ∷ bankedRecordOf m 4
     ∷ []
 
 -- the word of a record, 0 where GE exceeds 15, and its GE
-abbrev pub packedWord : Status → ℕ
-packedWord s = packedOf s .word
+abbrev pub packedWordOf : Status → ℕ
+packedWordOf s = packedOf s .word
 
-abbrev pub geNumber : Status → ℕ
-geNumber s = s .ge
+abbrev pub geNumberOf : Status → ℕ
+geNumberOf s = s .ge
 
-abbrev pub tagWords : Tag → List ℕ
-tagWords None = 0 ∷ 0 ∷ []
-tagWords (At a) = 1 ∷ a ∷ []
+abbrev pub tagWordsOf : Tag → List ℕ
+tagWordsOf None = 0 ∷ 0 ∷ []
+tagWordsOf (At a) = 1 ∷ a ∷ []
 
--- the way out: 16 + 7 + 7 + 12 + 5 + 5 + 2 words
-unfoldable pub stateWords : Machine → List ℕ
-stateWords m =
-    m .regs
-    ++ map packedWord (recordsOf m)
-    ++ map geNumber (recordsOf m)
-    ++ m .banked
-    ++ m .fiq
-    ++ m .user
-    ++ tagWords (m .tag)
+-- the way out
+unfoldable pub stateWordsOf : Machine → List ℕ
+stateWordsOf m =
+    m .regs  -- 0 to 15
+    ++ map packedWordOf (recordsOf m)  -- 16 to 22
+    ++ map geNumberOf (recordsOf m)  -- 23 to 29
+    ++ m .banked  -- 30 to 41
+    ++ m .fiq  -- 42 to 46
+    ++ m .user  -- 47 to 51
+    ++ tagWordsOf (m .tag)  -- 52 and 53
 
-abbrev pub stateBytes : Machine → List ℕ
-stateBytes m = bytesOf (stateWords m)
+abbrev pub stateBytesOf : Machine → List ℕ
+stateBytesOf m = bytesOf (stateWordsOf m)
 
 -- an answer's number and values, and for a run its count
-abbrev pub reportBytes : Report → List ℕ
-reportBytes r = bytesOf (r .number ∷ r .first ∷ r .second ∷ [])
+abbrev pub reportBytesOf : Report → List ℕ
+reportBytesOf r = bytesOf (r .number ∷ r .first ∷ r .second ∷ [])
 
-abbrev pub countedBytes : Report → ℕ → List ℕ
-countedBytes r count = bytesOf (r .number ∷ r .first ∷ r .second ∷ count ∷ [])
+abbrev pub countedBytesOf : Report → ℕ → List ℕ
+countedBytesOf r count = bytesOf (r .number ∷ r .first ∷ r .second ∷ count ∷ [])

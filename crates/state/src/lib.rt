@@ -3,7 +3,7 @@ ghost use mathlib.Core.Path.{_≡_};
 ghost use mathlib.Core.List.{map};
 ghost use Prim.Native.Nat.{_+_, _*_, _<_, _≤_};
 ghost use lib.ListN.{length};
-ghost use Rattle.state.specs.State.{geByteOf, word, wordsFrom, recordAt, tagOf, stateOf, recordsOf, packedWord, geNumber, tagWords, stateBytes, reportBytes, countedBytes};
+ghost use Rattle.state.specs.State.{geByteOf, word, wordsFrom, recordAt, tagOf, stateOf, recordsOf, packedWordOf, geNumberOf, tagWordsOf, stateBytesOf, reportBytesOf, countedBytesOf};
 ghost use Rattle.state.specs.Laws.Words.{placed};
 ghost use Rattle.state.specs.Laws.Parts.{frontPlaced, backPlaced};
 use cpu::Machine;
@@ -116,14 +116,14 @@ fn write_words(bytes: &mut [u8], from: u32, values: &[u32])
 }
 
 fn pack_word(s: Status) -> u32
-    ensures { λ r. ⌜ r ≡ packedWord s ⌝ }
+    ensures { λ r. ⌜ r ≡ packedWordOf s ⌝ }
 {
     let p = psr::pack(s);
     p.word
 }
 
 fn pack_words(m: Machine) -> [u32; 7]
-    ensures { λ r. ⌜ r ≡ map packedWord (recordsOf m) ⌝ }
+    ensures { λ r. ⌜ r ≡ map packedWordOf (recordsOf m) ⌝ }
 {
     let s = m.saved;
     [
@@ -138,13 +138,13 @@ fn pack_words(m: Machine) -> [u32; 7]
 }
 
 fn ge_word(s: Status) -> u32
-    ensures { λ r. ⌜ r ≡ geNumber s ⌝ }
+    ensures { λ r. ⌜ r ≡ geNumberOf s ⌝ }
 {
     s.ge as u32
 }
 
 fn ge_words(m: Machine) -> [u32; 7]
-    ensures { λ r. ⌜ r ≡ map geNumber (recordsOf m) ⌝ }
+    ensures { λ r. ⌜ r ≡ map geNumberOf (recordsOf m) ⌝ }
 {
     let s = m.saved;
     [
@@ -159,7 +159,7 @@ fn ge_words(m: Machine) -> [u32; 7]
 }
 
 fn tag_words(tag: Tag) -> [u32; 2]
-    ensures { λ r. ⌜ r ≡ tagWords tag ⌝ }
+    ensures { λ r. ⌜ r ≡ tagWordsOf tag ⌝ }
 {
     match tag {
         Tag::None => [0, 0],
@@ -198,7 +198,7 @@ fn write_back(bytes: &mut [u8], m: Machine)
 
 pub fn write_state(bytes: &mut [u8], m: Machine)
     requires { ⌜ length (now bytes) ≡ 216 ⌝ }
-    ensures { λ r. ⌜ now (bytes .exit) ≡ stateBytes m ⌝ }
+    ensures { λ r. ⌜ now (bytes .exit) ≡ stateBytesOf m ⌝ }
 {
     write_front(bytes, m);
     write_back(bytes, m);
@@ -206,7 +206,7 @@ pub fn write_state(bytes: &mut [u8], m: Machine)
 
 pub fn write_report(bytes: &mut [u8], report: Report)
     requires { ⌜ length (now bytes) ≡ 12 ⌝ }
-    ensures { λ r. ⌜ now (bytes .exit) ≡ reportBytes report ⌝ }
+    ensures { λ r. ⌜ now (bytes .exit) ≡ reportBytesOf report ⌝ }
 {
     let words = [report.number, report.first, report.second];
     write_words(bytes, 0, &words);
@@ -215,7 +215,7 @@ pub fn write_report(bytes: &mut [u8], report: Report)
 // The answer of a run, with its count.
 pub fn write_counted(bytes: &mut [u8], report: Report, count: u32)
     requires { ⌜ length (now bytes) ≡ 16 ⌝ }
-    ensures { λ r. ⌜ now (bytes .exit) ≡ countedBytes report count ⌝ }
+    ensures { λ r. ⌜ now (bytes .exit) ≡ countedBytesOf report count ⌝ }
 {
     let words = [report.number, report.first, report.second, count];
     write_words(bytes, 0, &words);

@@ -1,4 +1,4 @@
--- A machine written and read again is the same machine, where no GE exceeds 15.
+-- A machine written and read again is the same machine, where no GE exceeds 15; a machine read is valid.
 use mathlib.Core.Path.{_≡_, refl, sym, ap, _∙_}
 use mathlib.Core.Bool.{Bool, true, false, _||_, true≢false}
 use mathlib.Core.List.{List, [], _∷_, _++_, map, append-assoc}
@@ -9,7 +9,7 @@ use lib.Dec.{eqb, ltb, lit<, lit≤}
 use lib.ListN.{length, getD, take, drop}
 use lib.Seq.{drop-cons, drop-drop, drop-at, take-at, getD-drop}
 use borrow.Author.Tests.{le-ltb, le-leb, ltb-false}
-use Rattle.bits.specs.Cases.{if_then_else_, if-no}
+use Rattle.bits.specs.Cases.{if_then_else_, if-no, if-both}
 use Rattle.bits.specs.Laws.Words.{join-lanes}
 use Rattle.alu.specs.Laws.Sums.{bit-le}
 use Rattle.psr.specs.declared.Mode.{Mode}
@@ -20,12 +20,14 @@ use Rattle.psr.specs.Status.{modeNumber, wordOf, statusOf, packedOf}
 use Rattle.psr.specs.With.{withGe}
 use Rattle.psr.specs.Laws.Packing.{unpack-pack}
 use Rattle.memory.specs.Bytes.{wordAt}
+use Rattle.memory.specs.Laws.Bytes.{Bytes, word-lt}
 use Rattle.cpu.specs.Answers.{noStatus, badOf}
 use Rattle.cpu.specs.declared.Machine.{Machine}
 use Rattle.cpu.specs.declared.Tag.{Tag}
 use Rattle.cpu.specs.declared.Tag.the-variants.{None, At}
-use Rattle.state.specs.State.{word, wordsFrom, bytesOf, geByteOf, tagOf, stateOf, bankedRecord, recordsOf, packedWord, geNumber, tagWords, stateWords, stateBytes}
-use Rattle.state.specs.Valid.{Fits, TagFits, Valid}
+use Rattle.state.specs.State.{word, wordsFrom, bytesOf, geByteOf, tagOf, stateOf, bankedRecordOf, recordsOf, packedWordOf, geNumberOf, tagWordsOf, stateWordsOf, stateBytesOf}
+use Rattle.state.specs.Valid.{Fits, Words, TagFits, Valid}
+use Rattle.state.specs.Laws.Words.{length-from}
 use Rattle.state.specs.Laws.Parts.{length-words}
 
 -- words come back out of their bytes
@@ -64,7 +66,7 @@ fits-append [] ys f g i = g i
 fits-append (x ∷ xs) ys f g zero = f 0
 fits-append (x ∷ xs) ys f g (suc i) = fits-append xs ys (λ k. f (suc k)) g i
 
-fits-tag : (t : Tag) → TagFits t → Fits (tagWords t)
+fits-tag : (t : Tag) → TagFits t → Fits (tagWordsOf t)
 fits-tag None h zero = lit< tt
 fits-tag None h (suc zero) = lit< tt
 fits-tag None h (suc (suc i)) = lit< tt
@@ -90,23 +92,23 @@ mode-lt System = lit< tt
 
 -- a record whose GE fits: its packed word, that this is a word, and the record back
 module _ (s : Status) (h : s .ge ≤ 15) where
-  packed-is : packedWord s ≡ wordOf s
+  packed-is : packedWordOf s ≡ wordOf s
   unfolding packedOf
   packed-is = ap (λ (p : Packed). p .word) (if-no (ltb 15 (s .ge)) _ _ (le-ltb 15 (s .ge) h))
 
-  packed-lt : packedWord s < 2 ^ 32
+  packed-lt : packedWordOf s < 2 ^ 32
   unfolding wordOf
   packed-lt =
       rw packed-is
       (omega (arith, bit-le (s .n), bit-le (s .z), bit-le (s .c), bit-le (s .v), bit-le (s .q), bit-le (s .e), bit-le (s .a), bit-le (s .i), bit-le (s .f), bit-le (s .t), mode-lt (s .mode)))
 
-  record-back : (a b : ℕ) → a ≡ packedWord s → b ≡ s .ge → withGe (statusOf a) (geByteOf b) ≡ s
+  record-back : (a b : ℕ) → a ≡ packedWordOf s → b ≡ s .ge → withGe (statusOf a) (geByteOf b) ≡ s
   unfolding geByteOf if_then_else_
   record-back a b p q =
       let k : s .ge ≤ 255 = omega arith in
       rw (p, q, packed-is, le-leb (s .ge) 255 k, unpack-pack s h)
 
-tag-back : (t : Tag) (a b : ℕ) → a ≡ getD (tagWords t) 0 0 → b ≡ getD (tagWords t) 1 0 → (if eqb a 0 then None else At b) ≡ t
+tag-back : (t : Tag) (a b : ℕ) → a ≡ getD (tagWordsOf t) 0 0 → b ≡ getD (tagWordsOf t) 1 0 → (if eqb a 0 then None else At b) ≡ t
 unfolding if_then_else_
 tag-back None a b p q = rw p
 tag-back (At x) a b p q = rw (p, q)
@@ -135,12 +137,12 @@ ge-fits m e i =
     let n₃ = neither _ _ (n₄ .0) in
     let n₂ = neither _ _ (n₃ .0) in
     let n₁ = neither _ _ (n₂ .0) in
-    go (low (m .cpsr) (n₁ .0)) (low (m .spsr) (n₁ .1)) (low (bankedRecord m 0) (n₂ .1)) (low (bankedRecord m 1) (n₃ .1)) (low (bankedRecord m 2) (n₄ .1)) (low (bankedRecord m 3) (n₅ .1)) (low (bankedRecord m 4) (n₆ .1)) i
+    go (low (m .cpsr) (n₁ .0)) (low (m .spsr) (n₁ .1)) (low (bankedRecordOf m 0) (n₂ .1)) (low (bankedRecordOf m 1) (n₃ .1)) (low (bankedRecordOf m 2) (n₄ .1)) (low (bankedRecordOf m 3) (n₅ .1)) (low (bankedRecordOf m 4) (n₆ .1)) i
   where
     low : (s : Status) → ltb 15 (s .ge) ≡ false → s .ge ≤ 15
     low s h = ltb-false 15 (s .ge) h
 
-    go : m .cpsr .ge ≤ 15 → m .spsr .ge ≤ 15 → bankedRecord m 0 .ge ≤ 15 → bankedRecord m 1 .ge ≤ 15 → bankedRecord m 2 .ge ≤ 15 → bankedRecord m 3 .ge ≤ 15 → bankedRecord m 4 .ge ≤ 15
+    go : m .cpsr .ge ≤ 15 → m .spsr .ge ≤ 15 → bankedRecordOf m 0 .ge ≤ 15 → bankedRecordOf m 1 .ge ≤ 15 → bankedRecordOf m 2 .ge ≤ 15 → bankedRecordOf m 3 .ge ≤ 15 → bankedRecordOf m 4 .ge ≤ 15
         → (i : ℕ) → getD (recordsOf m) i noStatus .ge ≤ 15
     go a b c d e f g zero = a
     go a b c d e f g (suc zero) = b
@@ -153,7 +155,7 @@ ge-fits m e i =
 
 -- what stands behind each part of the way out
 abbrev afterUser : Machine → List ℕ
-afterUser m = tagWords (m .tag)
+afterUser m = tagWordsOf (m .tag)
 
 abbrev afterFiq : Machine → List ℕ
 afterFiq m = m .user ++ afterUser m
@@ -165,17 +167,17 @@ abbrev afterNumbers : Machine → List ℕ
 afterNumbers m = m .banked ++ afterBanked m
 
 abbrev afterPacked : Machine → List ℕ
-afterPacked m = map geNumber (recordsOf m) ++ afterNumbers m
+afterPacked m = map geNumberOf (recordsOf m) ++ afterNumbers m
 
 abbrev afterRegs : Machine → List ℕ
-afterRegs m = map packedWord (recordsOf m) ++ afterPacked m
+afterRegs m = map packedWordOf (recordsOf m) ++ afterPacked m
 
-parts : (m : Machine) → stateWords m ≡ m .regs ++ afterRegs m
-unfolding stateWords
+parts : (m : Machine) → stateWordsOf m ≡ m .regs ++ afterRegs m
+unfolding stateWordsOf
 parts m = simp append-assoc
 
 module _ (m : Machine) (v : Valid m) (e : badOf m ≡ false) where
-  all-fit : Fits (stateWords m)
+  all-fit : Fits (stateWordsOf m)
   all-fit i =
       let g = ge-fits m e in
       let f₆ : Fits (afterUser m) = fits-tag (m .tag) (v .tag) in
@@ -183,18 +185,18 @@ module _ (m : Machine) (v : Valid m) (e : badOf m ≡ false) where
       let f₄ : Fits (afterBanked m) = fits-append (m .fiq) (afterFiq m) (v .fiq .fits) f₅ in
       let f₃ : Fits (afterNumbers m) = fits-append (m .banked) (afterBanked m) (v .banked .fits) f₄ in
       let f₂ : Fits (afterPacked m) =
-      fits-append (map geNumber (recordsOf m)) (afterNumbers m) (fits-map geNumber (λ s h. omega arith) (recordsOf m) g) f₃ in
-      let f₁ : Fits (afterRegs m) = fits-append (map packedWord (recordsOf m)) (afterPacked m) (fits-map packedWord packed-lt (recordsOf m) g) f₂ in
+      fits-append (map geNumberOf (recordsOf m)) (afterNumbers m) (fits-map geNumberOf (λ s h. omega arith) (recordsOf m) g) f₃ in
+      let f₁ : Fits (afterRegs m) = fits-append (map packedWordOf (recordsOf m)) (afterPacked m) (fits-map packedWordOf packed-lt (recordsOf m) g) f₂ in
       rw (parts m) (fits-append (m .regs) (afterRegs m) (v .regs .fits) f₁ i)
 
-  pub read-written : stateOf (stateBytes m) ≡ m
+  pub read-written : stateOf (stateBytesOf m) ≡ m
   unfolding stateOf tagOf
   read-written =
-      let ws : List ℕ = stateWords m in
+      let ws : List ℕ = stateWordsOf m in
       let size : length ws ≡ 54 = length-words m (record { regs = v .regs .size; banked = v .banked .size; fiq = v .fiq .size; user = v .user .size }) in
       let g = ge-fits m e in
-      let packed : List ℕ = map packedWord (recordsOf m) in
-      let numbers : List ℕ = map geNumber (recordsOf m) in
+      let packed : List ℕ = map packedWordOf (recordsOf m) in
+      let numbers : List ℕ = map geNumberOf (recordsOf m) in
       let d₁₆ = part-next ws (m .regs) (afterRegs m) 0 16 (parts m) (v .regs .size) 16 refl in
       let d₂₃ = part-next ws packed (afterPacked m) 16 7 d₁₆ refl 23 refl in
       let d₃₀ = part-next ws numbers (afterNumbers m) 23 7 d₂₃ refl 30 refl in
@@ -208,14 +210,34 @@ module _ (m : Machine) (v : Valid m) (e : badOf m ≡ false) where
       let regs = words-back ws all-fit 0 16 (omega arith) ∙ part-here ws (m .regs) (afterRegs m) 0 16 (parts m) (v .regs .size) in
       let cpsr = record-back (m .cpsr) (g 0) _ _ (status 0) (number 0) in
       let spsr = record-back (m .spsr) (g 1) _ _ (status 1) (number 1) in
-      let s₀ = record-back (bankedRecord m 0) (g 2) _ _ (status 2) (number 2) in
-      let s₁ = record-back (bankedRecord m 1) (g 3) _ _ (status 3) (number 3) in
-      let s₂ = record-back (bankedRecord m 2) (g 4) _ _ (status 4) (number 4) in
-      let s₃ = record-back (bankedRecord m 3) (g 5) _ _ (status 5) (number 5) in
-      let s₄ = record-back (bankedRecord m 4) (g 6) _ _ (status 6) (number 6) in
-      let saved : stateOf (stateBytes m) .saved ≡ m .saved = rw (s₀, s₁, s₂, s₃, s₄) (five (m .saved) (v .saved)) in
+      let s₀ = record-back (bankedRecordOf m 0) (g 2) _ _ (status 2) (number 2) in
+      let s₁ = record-back (bankedRecordOf m 1) (g 3) _ _ (status 3) (number 3) in
+      let s₂ = record-back (bankedRecordOf m 2) (g 4) _ _ (status 4) (number 4) in
+      let s₃ = record-back (bankedRecordOf m 3) (g 5) _ _ (status 5) (number 5) in
+      let s₄ = record-back (bankedRecordOf m 4) (g 6) _ _ (status 6) (number 6) in
+      let saved : stateOf (stateBytesOf m) .saved ≡ m .saved = rw (s₀, s₁, s₂, s₃, s₄) (five (m .saved) (v .saved)) in
       let banked = words-back ws all-fit 30 12 (omega arith) ∙ part-here ws (m .banked) (afterBanked m) 30 12 d₃₀ (v .banked .size) in
       let fiq = words-back ws all-fit 42 5 (omega arith) ∙ part-here ws (m .fiq) (afterFiq m) 42 5 d₄₂ (v .fiq .size) in
       let user = words-back ws all-fit 47 5 (omega arith) ∙ part-here ws (m .user) (afterUser m) 47 5 d₄₇ (v .user .size) in
       let tag = tag-back (m .tag) _ _ (at 52 0 _ d₅₂) (at 52 1 _ d₅₂) in
       λ j. record { regs = regs j; cpsr = cpsr j; spsr = spsr j; banked = banked j; saved = saved j; fiq = fiq j; user = user j; tag = tag j }
+
+-- every machine that comes out of bytes is valid
+from-fits : (l : List ℕ) → Bytes l → (i n : ℕ) → Fits (wordsFrom l i n)
+unfolding wordsFrom
+from-fits l b i zero k = lit< tt
+from-fits l b i (suc n) zero = word-lt l (4 * i) b
+from-fits l b i (suc n) (suc k) = from-fits l b (i + 1) n k
+
+pub valid-read : (l : List ℕ) → Bytes l → Valid (stateOf l)
+unfolding stateOf tagOf
+valid-read l b =
+    let from : (i n : ℕ) → Words n (wordsFrom l i n) = λ i n. record { size = length-from l i n; fits = from-fits l b i n } in
+    record {
+      regs = from 0 16;
+      banked = from 30 12;
+      saved = refl;
+      fiq = from 42 5;
+      user = from 47 5;
+      tag = if-both TagFits (eqb (word l 52) 0) tt (word-lt l (4 * 53) b);
+    }
