@@ -33,8 +33,7 @@ loop-again c =
     let t = c .before .before .before .before in
     let b = c .before .before .before .if1 .taken in
     let L = t .before .loop in
-    let h = t .loop-test .taken in
-    (
+    let h = t .loop-test .taken in (
       rw (c .wrapping-add .ensures) (under-set (L .inv .0) h b),
       L .inv .1 ∙ rw (c .before .write-user-reg .ensures, c .before .before .read32 .ensures, c .wrapping-add .ensures) (fill-set _ _ _ _ _ _ (under-reach (L .inv .0) h) b),
     )

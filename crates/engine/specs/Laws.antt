@@ -1,0 +1,4 @@
+-- Laws that proofs cite; nothing here has to be believed.
+pub mod Gate
+pub mod Fetch
+pub mod Going

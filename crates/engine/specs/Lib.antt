@@ -1,0 +1,4 @@
+pub mod Step
+pub mod Run
+pub mod Promises
+pub mod Laws
