@@ -159,17 +159,28 @@ markedIn regs op x = (sticky (x .q), advanced (set regs (op ⟨ 19 ‥ 16 ⟩) (
 abbrev pub longIn : List ℕ → ℕ → Long → Outcome × List ℕ
 longIn regs op x = (nothing, advanced (set (set regs (op ⟨ 15 ‥ 12 ⟩) (x .lo)) (op ⟨ 19 ‥ 16 ⟩) (x .hi)))
 
--- by bits 22-20: A4.1.85 SMUAD and A4.1.75 SMLAD, A4.1.78 SMLALD, A4.1.84 SMMUL and A4.1.82 SMMLA, with the forms that subtract (bit 6)
--- bit 5 exchanges halves or rounds; Rn of r15 means no accumulate; D4: bit 7 is not looked at
+-- A4.1.75 SMLAD, A4.1.80 SMLSD, and with Rn of r15 A4.1.85 SMUAD, A4.1.89 SMUSD: bit 6 subtracts, bit 5 exchanges the halves of Rs
+unfoldable pub dualWordOf : List ℕ → ℕ → Outcome × List ℕ
+dualWordOf regs op =
+    if op ⟨ 15 ‥ 12 ⟩ == 15 then markedIn regs op (smuadOf (low regs op) (second regs op) (op ⟨ 6 ⟩) (op ⟨ 5 ⟩))
+    else markedIn regs op (smladOf (low regs op) (second regs op) (third regs op) (op ⟨ 6 ⟩) (op ⟨ 5 ⟩))
+
+-- A4.1.78 SMLALD, A4.1.81 SMLSLD: likewise
+abbrev pub dualLongOf : List ℕ → ℕ → Outcome × List ℕ
+dualLongOf regs op = longIn regs op (smlaldOf (low regs op) (second regs op) (third regs op) (high regs op) (op ⟨ 6 ⟩) (op ⟨ 5 ⟩))
+
+-- A4.1.82 SMMLA, A4.1.83 SMMLS, and with Rn of r15 A4.1.84 SMMUL: bit 6 subtracts, bit 5 rounds
+unfoldable pub mostWordOf : List ℕ → ℕ → Outcome × List ℕ
+mostWordOf regs op =
+    if op ⟨ 15 ‥ 12 ⟩ == 15 then putOf regs (op ⟨ 19 ‥ 16 ⟩) (smmulOf (low regs op) (second regs op) (op ⟨ 6 ⟩) (op ⟨ 5 ⟩))
+    else putOf regs (op ⟨ 19 ‥ 16 ⟩) (smmlaOf (low regs op) (second regs op) (third regs op) (op ⟨ 6 ⟩) (op ⟨ 5 ⟩))
+
+-- by bits 22-20; D4: bit 7 is not looked at
 unfoldable pub dualMultiplyOf : List ℕ → ℕ → Outcome × List ℕ
 dualMultiplyOf regs op =
-    if op ⟨ 22 ‥ 20 ⟩ == 0 then
-    (if op ⟨ 15 ‥ 12 ⟩ == 15 then markedIn regs op (smuadOf (low regs op) (second regs op) (op ⟨ 6 ⟩) (op ⟨ 5 ⟩))
-    else markedIn regs op (smladOf (low regs op) (second regs op) (third regs op) (op ⟨ 6 ⟩) (op ⟨ 5 ⟩)))
-    else if op ⟨ 22 ‥ 20 ⟩ == 4 then longIn regs op (smlaldOf (low regs op) (second regs op) (third regs op) (high regs op) (op ⟨ 6 ⟩) (op ⟨ 5 ⟩))
-    else if op ⟨ 22 ‥ 20 ⟩ == 5 then
-    (if op ⟨ 15 ‥ 12 ⟩ == 15 then putOf regs (op ⟨ 19 ‥ 16 ⟩) (smmulOf (low regs op) (second regs op) (op ⟨ 6 ⟩) (op ⟨ 5 ⟩))
-    else putOf regs (op ⟨ 19 ‥ 16 ⟩) (smmlaOf (low regs op) (second regs op) (third regs op) (op ⟨ 6 ⟩) (op ⟨ 5 ⟩)))
+    if op ⟨ 22 ‥ 20 ⟩ == 0 then dualWordOf regs op
+    else if op ⟨ 22 ‥ 20 ⟩ == 4 then dualLongOf regs op
+    else if op ⟨ 22 ‥ 20 ⟩ == 5 then mostWordOf regs op
     else undefinedOf regs op
 
 -- ---- A4.1.136 USAD8, A4.1.137 USADA8: bits 24-20 of 11000 and 7-5 of 000

@@ -1,7 +1,7 @@
 // The ARMv6 media instructions, on lent registers.
 ghost use mathlib.Core.Path.{_≡_};
 ghost use Prim.Native.Nat.{_<_};
-ghost use Rattle.media.specs.Media.{variantOf, operationOf, combinedOf, parallelFamilyOf, shiftedOf, packedOf, saturatedIn, saturateOf, saturate16Of, extensionOf, addendOf, extendFamilyOf, selectedOf, reversalOf, packingOf, markedIn, longIn, dualMultiplyOf, usadOf, mediaOf};
+ghost use Rattle.media.specs.Media.{variantOf, operationOf, combinedOf, parallelFamilyOf, shiftedOf, packedOf, saturatedIn, saturateOf, saturate16Of, extensionOf, addendOf, extendFamilyOf, selectedOf, reversalOf, packingOf, markedIn, longIn, dualWordOf, dualLongOf, mostWordOf, dualMultiplyOf, usadOf, mediaOf};
 use alu::Saturated;
 use cpu::Outcome;
 use lanes::Combined;
@@ -236,31 +236,67 @@ fn put_long(regs: &mut [u32; 16], op: u32, x: Long) -> Outcome
     cpu::put(regs, op / 65536 % 16, x.hi)
 }
 
-// SMUAD and SMLAD, SMLALD, SMMUL and SMMLA, with their subtracting forms.
-fn dual_multiply(regs: &mut [u32; 16], op: u32) -> Outcome
-    ensures { λ r. ⌜ (r, now (regs .exit)) ≡ dualMultiplyOf (now (regs .entry)) op ⌝ }
+// SMLAD, SMLSD, SMUAD, SMUSD.
+fn smlad(regs: &mut [u32; 16], op: u32) -> Outcome
+    ensures { λ r. ⌜ (r, now (regs .exit)) ≡ dualWordOf (now (regs .entry)) op ⌝ }
 {
     let m = regs[(op % 16) as usize];
     let s = regs[(op / 256 % 16) as usize];
-    let n = regs[(op / 4096 % 16) as usize];
-    let rd = op / 65536 % 16;
     let subtract = op / 64 % 2 == 1;
     let x = op / 32 % 2 == 1;
+    if op / 4096 % 16 == 15 {
+        mark(regs, op, products::smuad(m, s, subtract, x))
+    } else {
+        let n = regs[(op / 4096 % 16) as usize];
+        mark(regs, op, products::smlad(m, s, n, subtract, x))
+    }
+}
+
+// SMLALD, SMLSLD.
+fn smlald(regs: &mut [u32; 16], op: u32) -> Outcome
+    ensures { λ r. ⌜ (r, now (regs .exit)) ≡ dualLongOf (now (regs .entry)) op ⌝ }
+{
+    let m = regs[(op % 16) as usize];
+    let s = regs[(op / 256 % 16) as usize];
+    let lo = regs[(op / 4096 % 16) as usize];
+    let hi = regs[(op / 65536 % 16) as usize];
+    let sum = products::smlald(m, s, lo, hi, op / 64 % 2 == 1, op / 32 % 2 == 1);
+    put_long(regs, op, sum)
+}
+
+// SMMLA, SMMLS, SMMUL.
+fn smmla(regs: &mut [u32; 16], op: u32) -> Outcome
+    ensures { λ r. ⌜ (r, now (regs .exit)) ≡ mostWordOf (now (regs .entry)) op ⌝ }
+{
+    let m = regs[(op % 16) as usize];
+    let s = regs[(op / 256 % 16) as usize];
+    let subtract = op / 64 % 2 == 1;
+    let round = op / 32 % 2 == 1;
+    if op / 4096 % 16 == 15 {
+        cpu::put(
+            regs,
+            op / 65536 % 16,
+            products::smmul(m, s, subtract, round),
+        )
+    } else {
+        let n = regs[(op / 4096 % 16) as usize];
+        cpu::put(
+            regs,
+            op / 65536 % 16,
+            products::smmla(m, s, n, subtract, round),
+        )
+    }
+}
+
+fn dual_multiply(regs: &mut [u32; 16], op: u32) -> Outcome
+    ensures { λ r. ⌜ (r, now (regs .exit)) ≡ dualMultiplyOf (now (regs .entry)) op ⌝ }
+{
     if op / 1048576 % 8 == 0 {
-        if op / 4096 % 16 == 15 {
-            mark(regs, op, products::smuad(m, s, subtract, x))
-        } else {
-            mark(regs, op, products::smlad(m, s, n, subtract, x))
-        }
+        smlad(regs, op)
     } else if op / 1048576 % 8 == 4 {
-        let hi = regs[rd as usize];
-        put_long(regs, op, products::smlald(m, s, n, hi, subtract, x))
+        smlald(regs, op)
     } else if op / 1048576 % 8 == 5 {
-        if op / 4096 % 16 == 15 {
-            cpu::put(regs, rd, products::smmul(m, s, subtract, x))
-        } else {
-            cpu::put(regs, rd, products::smmla(m, s, n, subtract, x))
-        }
+        smmla(regs, op)
     } else {
         cpu::refuse(regs, op)
     }

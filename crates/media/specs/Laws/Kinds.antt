@@ -17,7 +17,7 @@ use Rattle.lanes.specs.Parallel.{geOf, halvesOf, bytesOf, bytewiseOf, parallelO
 use Rattle.cpu.specs.declared.Kind.the-variants as kind
 use Rattle.cpu.specs.declared.Outcome.{Outcome}
 use Rattle.cpu.specs.Outcomes.{sticky, advanced, putOf, undefinedOf}
-use Rattle.media.specs.Media.{combinedOf, parallelFamilyOf, packedOf, saturateOf, saturate16Of, extendFamilyOf, reversalOf, packingOf, dualMultiplyOf, usadOf, mediaOf}
+use Rattle.media.specs.Media.{combinedOf, parallelFamilyOf, packedOf, saturateOf, saturate16Of, extendFamilyOf, reversalOf, packingOf, dualWordOf, mostWordOf, dualMultiplyOf, usadOf, mediaOf}
 
 -- belongs in bits: what holds of both values holds of the choice
 if-both : {A : Type 0} (P : A → Type 0) (t : Bool) {a b : A} → P a → P b → P (if t then a else b)
@@ -117,12 +117,17 @@ module _ (regs : List ℕ) (op : ℕ) where
   reversed =
       if-both Keeps _ (put _ _) (if-both Keeps _ (put _ _) (if-both Keeps _ (put _ _) (if-both Keeps _ (put _ _) refused)))
 
+  dual : Keeps (dualWordOf regs op)
+  unfolding dualWordOf
+  dual = if-both Keeps _ (marked _ _ _) (marked _ _ _)
+
+  most : Keeps (mostWordOf regs op)
+  unfolding mostWordOf
+  most = if-both Keeps _ (put _ _) (put _ _)
+
   multiplied : Keeps (dualMultiplyOf regs op)
   unfolding dualMultiplyOf
-  multiplied =
-      if-both Keeps _ (if-both Keeps _ (marked _ _ _) (marked _ _ _))
-      (if-both Keeps _ (inl refl, simp length-set)
-      (if-both Keeps _ (if-both Keeps _ (put _ _) (put _ _)) refused))
+  multiplied = if-both Keeps _ dual (if-both Keeps _ (inl refl, simp length-set) (if-both Keeps _ most refused))
 
   summed : Keeps (usadOf regs op)
   unfolding usadOf
