@@ -4,14 +4,14 @@ use lib.ListN.{length}
 use borrow.Author.Needs.{needs}
 use Rattle.banks.specs.Banks.{withUserReg}
 use Rattle.block.specs.Laws.Lists.{restOf}
-use Rattle.block.specs.Laws.Loops.{Under, under-first, under-reach, under-here, under-set, under-clear, filledFrom, filled-is, fill-set, fill-clear, fill-none}
+use Rattle.block.specs.Laws.Loops.{Under, under-first, under-reach, under-here, under-set, under-clear, loadedFrom, loaded-is, load-set, load-clear, load-none}
 use Rattle.block.proofs.load_user_listed.Statement.{statement}
 use Rattle.block.proofs.load_user_listed.Tie as tie
 
 abbrev Inv-loop : tie.InvT-loop
 Inv-loop mem out₀ rest₀ a₀ i₀ out rest a i =
     Under (length mem) rest a i
-    × (filledFrom (λ x r v. withUserReg x r v) out₀ mem a₀ (restOf 0 rest₀) ≡ filledFrom (λ x r v. withUserReg x r v) out mem a (restOf i rest))
+    × (loadedFrom (λ x r v. withUserReg x r v) out₀ mem a₀ (restOf 0 rest₀) ≡ loadedFrom (λ x r v. withUserReg x r v) out mem a (restOf i rest))
 
 abbrev μ-loop : tie.MeasureT-loop
 μ-loop mem out₀ rest₀ a₀ i₀ out rest a i = rest
@@ -33,10 +33,9 @@ loop-again c =
     let t = c .before .before .before .before in
     let b = c .before .before .before .if1 .taken in
     let L = t .before .loop in
-    let h = t .loop-test .taken in
-    (
+    let h = t .loop-test .taken in (
       rw (c .wrapping-add .ensures) (under-set (L .inv .0) h b),
-      L .inv .1 ∙ rw (c .before .write-user-reg .ensures, c .before .before .read32 .ensures, c .wrapping-add .ensures) (fill-set _ _ _ _ _ _ (under-reach (L .inv .0) h) b),
+      L .inv .1 ∙ rw (c .before .write-user-reg .ensures, c .before .before .read32 .ensures, c .wrapping-add .ensures) (load-set _ _ _ _ _ _ (under-reach (L .inv .0) h) b),
     )
 
 add-i-2 : tie.Need-add-i-2 Inv-loop μ-loop
@@ -47,12 +46,12 @@ loop-again-2 c =
     let L = c .before .before .loop in
     let h = c .before .loop-test .taken in
     let b = c .if1 .left in
-    (under-clear (L .inv .0) h b, L .inv .1 ∙ fill-clear _ _ _ _ _ _ (under-reach (L .inv .0) h) b)
+    (under-clear (L .inv .0) h b, L .inv .1 ∙ load-clear _ _ _ _ _ _ (under-reach (L .inv .0) h) b)
 
 returns : tie.Need-returns Inv-loop μ-loop
 returns c =
     let s = c .before .before .before in
-    sym (filled-is _ (s .args .p) _ _ (s .pre .1) ∙ c .before .loop .inv .1 ∙ fill-none _ _ _ _ _ _ (c .loop-test .left))
+    sym (loaded-is _ (s .args .p) _ _ (s .pre .1) ∙ c .before .loop .inv .1 ∙ load-none _ _ _ _ _ _ (c .loop-test .left))
 
 pub load-user-listed-spec : {M : Type 1} → statement M
 load-user-listed-spec =

@@ -1,11 +1,10 @@
-use Prim.Native.Nat.{_≤_}
 use mathlib.Core.Path.{_≡_, refl, sym, _∙_}
 use native.Mathlib.Omega.{arith}
 use lib.ListN.{length, getD}
 use borrow.Author.Needs.{needs}
 use Rattle.memory.specs.Laws.Bytes.{length-word}
 use Rattle.block.specs.Laws.Lists.{restOf}
-use Rattle.block.specs.Laws.Loops.{Under, under-first, under-reach, under-here, under-set, under-clear, savedFrom, saved-is, save-set, save-clear, save-none}
+use Rattle.block.specs.Laws.Loops.{Under, under-first, under-reach, under-here, under-set, under-clear, storedFrom, stored-is, store-set, store-clear, store-none}
 use Rattle.block.proofs.store_listed.Statement.{statement}
 use Rattle.block.proofs.store_listed.Tie as tie
 
@@ -13,7 +12,7 @@ abbrev Inv-loop : tie.InvT-loop
 Inv-loop values mem₀ rest₀ a₀ i₀ mem rest a i =
     Under (length mem) rest a i
     × (length mem ≡ length mem₀)
-    × (savedFrom (λ r. getD values r 0) mem₀ a₀ (restOf 0 rest₀) ≡ savedFrom (λ r. getD values r 0) mem a (restOf i rest))
+    × (storedFrom (λ r. getD values r 0) mem₀ a₀ (restOf 0 rest₀) ≡ storedFrom (λ r. getD values r 0) mem a (restOf i rest))
 
 abbrev μ-loop : tie.MeasureT-loop
 μ-loop values mem₀ rest₀ a₀ i₀ mem rest a i = rest
@@ -46,7 +45,7 @@ loop-again c =
     let h = t .loop-test .taken in (
       rw (w .write32 .ensures, length-word, c .wrapping-add .ensures) (under-set (L .inv .0) h (b .if1 .taken)),
       omega (arith, w .write32 .kept .0),
-      L .inv .2 ∙ rw (w .write32 .ensures, c .wrapping-add .ensures) (save-set _ _ _ _ _ (under-reach (L .inv .0) h) (b .if1 .taken)),
+      L .inv .2 ∙ rw (w .write32 .ensures, c .wrapping-add .ensures) (store-set _ _ _ _ _ (under-reach (L .inv .0) h) (b .if1 .taken)),
     )
 
 add-i-2 : tie.Need-add-i-2 Inv-loop μ-loop
@@ -57,13 +56,13 @@ loop-again-2 c =
     let L = c .before .before .loop in
     let h = c .before .loop-test .taken in
     let b = c .if1 .left in
-    (under-clear (L .inv .0) h b, L .inv .1, L .inv .2 ∙ save-clear _ _ _ _ _ (under-reach (L .inv .0) h) b)
+    (under-clear (L .inv .0) h b, L .inv .1, L .inv .2 ∙ store-clear _ _ _ _ _ (under-reach (L .inv .0) h) b)
 
 returns : tie.Need-returns Inv-loop μ-loop
 returns c =
     let L = c .before .loop in
     let s = c .before .before .before in
-    sym (saved-is (s .args .p) _ _ (s .pre .1) ∙ L .inv .2 ∙ save-none _ _ _ _ _ (c .loop-test .left))
+    sym (stored-is (s .args .p) _ _ (s .pre .1) ∙ L .inv .2 ∙ store-none _ _ _ _ _ (c .loop-test .left))
 
 pub store-listed-spec : {M : Type 1} → statement M
 store-listed-spec =

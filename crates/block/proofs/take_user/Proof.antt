@@ -19,8 +19,7 @@ loop-holds c = (refl, λ r h. absurd (omega arith))
 
 loop-again : tie.Need-loop-again Inv-loop μ-loop
 loop-again c =
-    let L = c .before .before .loop in
-    (
+    let L = c .before .before .loop in (
       length-set (L .out) (L .i) _ ∙ L .inv .0,
       values-next (L .out) (userRegOf (c .before .before .before .args .m)) (L .i) _ (rw (L .inv .0) (c .before .loop-test .taken)) (c .read-user-reg .ensures) (L .inv .1),
     )
