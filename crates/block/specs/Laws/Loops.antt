@@ -10,6 +10,7 @@ use Rattle.bits.specs.Cases.{if-no}
 use Rattle.memory.specs.Bytes.{wordAt, putWord}
 use Rattle.memory.specs.Plans.{accessesOf, firstOut, outsideOf, wordsAt, putWords, storedOf}
 use Rattle.memory.specs.Laws.Plans.{inside-next}
+use Rattle.memory.specs.Laws.Bytes.{length-word}
 use Rattle.memory.specs.declared.Found.the-variants.{Inside}
 use Rattle.block.specs.declared.Plan.{Plan}
 use Rattle.block.specs.Block.{foundOf, storedListOf, putEach, loadedListOf}
@@ -69,18 +70,37 @@ pub stored-is : (p : Plan) (source : ℕ → ℕ) (l : List ℕ) → p .list < 2
 stored-is p source l h =
     rw (halved-is (p .list), count-rest (p .list) h) (stored-from source l (p .start) (restOf 0 (p .list)))
 
-module _ (source : ℕ → ℕ) (l : List ℕ) (a i rest : ℕ) where
-  pub store-set : i < 16 → rest % 2 ≡ 1
-      → storedFrom source l a (restOf i rest) ≡ storedFrom source (putWord l a (source i)) ((a + 4) % 2 ^ 32) (restOf (i + 1) (rest / 2))
-  unfolding storedFrom
-  store-set h b = ap (storedFrom source l a) (rest-set i rest h b)
+-- A store under way: what is to come makes of l what the whole makes of memory as it was.
+pub record Storing (source : ℕ → ℕ) (before : List ℕ) (at list : ℕ) (l : List ℕ) (rest a i : ℕ) : Type 0 where
+  pub under : Under (length l) rest a i
+  pub whole : storedFrom source before at (restOf 0 list) ≡ storedFrom source l a (restOf i rest)
+  pub long : length l ≡ length before
 
-  pub store-clear : i < 16 → (rest % 2 ≡ 1 → ⊥) → storedFrom source l a (restOf i rest) ≡ storedFrom source l a (restOf (i + 1) (rest / 2))
-  store-clear h b = ap (storedFrom source l a) (rest-clear i rest h b)
+pub storing-first : (p : Plan) (source : ℕ → ℕ) (l : List ℕ) → Told p (length l) → Storing source l (p .start) (p .list) l (p .list) (p .start) 0
+storing-first p source l t = record { under = under-first p (length l) t; whole = refl; long = refl }
 
-  pub store-none : rest ≤ 0 → storedFrom source l a (restOf i rest) ≡ l
+module _ {source : ℕ → ℕ} {before : List ℕ} {at list : ℕ} {l : List ℕ} {rest a i : ℕ} (s : Storing source before at list l rest a i) where
+  pub storing-set : 0 < rest → rest % 2 ≡ 1 → Storing source before at list (putWord l a (source i)) (rest / 2) ((a + 4) % 2 ^ 32) (i + 1)
   unfolding storedFrom
-  store-none h = ap (storedFrom source l a) (rest-none i rest h)
+  storing-set h b =
+      let n : length (putWord l a (source i)) ≡ length l = length-word l a (source i) in
+      record {
+        under = rw n (under-set (s .under) h b);
+        whole = s .whole ∙ ap (storedFrom source l a) (rest-set i rest (under-reach (s .under) h) b);
+        long = n ∙ s .long;
+      }
+
+  pub storing-clear : 0 < rest → (rest % 2 ≡ 1 → ⊥) → Storing source before at list l (rest / 2) a (i + 1)
+  storing-clear h b =
+      record {
+        under = under-clear (s .under) h b;
+        whole = s .whole ∙ ap (storedFrom source l a) (rest-clear i rest (under-reach (s .under) h) b);
+        long = s .long;
+      }
+
+  pub storing-last : rest ≤ 0 → storedFrom source before at (restOf 0 list) ≡ l
+  unfolding storedFrom
+  storing-last h = s .whole ∙ ap (storedFrom source l a) (rest-none i rest h)
 
 -- a load, a register at a time
 unfoldable pub loadedFrom : {A : Type 0} → (A → ℕ → ℕ → A) → A → List ℕ → ℕ → List ℕ → A
@@ -97,15 +117,31 @@ module _ {A : Type 0} (put : A → ℕ → ℕ → A) where
   loaded-is p x l h =
       rw (halved-is (p .list), count-rest (p .list) h) (loaded-from x l (p .start) (restOf 0 (p .list)))
 
-  module _ (x : A) (l : List ℕ) (a i rest : ℕ) where
-    pub load-set : i < 16 → rest % 2 ≡ 1
-        → loadedFrom put x l a (restOf i rest) ≡ loadedFrom put (put x i (wordAt l a)) l ((a + 4) % 2 ^ 32) (restOf (i + 1) (rest / 2))
-    unfolding loadedFrom
-    load-set h b = ap (loadedFrom put x l a) (rest-set i rest h b)
+-- A load under way, into registers or a machine.
+pub record Loading {A : Type 0} (put : A → ℕ → ℕ → A) (before : A) (l : List ℕ) (at list : ℕ) (x : A) (rest a i : ℕ) : Type 0 where
+  pub under : Under (length l) rest a i
+  pub whole : loadedFrom put before l at (restOf 0 list) ≡ loadedFrom put x l a (restOf i rest)
 
-    pub load-clear : i < 16 → (rest % 2 ≡ 1 → ⊥) → loadedFrom put x l a (restOf i rest) ≡ loadedFrom put x l a (restOf (i + 1) (rest / 2))
-    load-clear h b = ap (loadedFrom put x l a) (rest-clear i rest h b)
+pub loading-first : {A : Type 0} (p : Plan) (put : A → ℕ → ℕ → A) (x : A) (l : List ℕ) → Told p (length l)
+    → Loading put x l (p .start) (p .list) x (p .list) (p .start) 0
+loading-first p put x l t = record { under = under-first p (length l) t; whole = refl }
 
-    pub load-none : rest ≤ 0 → loadedFrom put x l a (restOf i rest) ≡ x
-    unfolding loadedFrom
-    load-none h = ap (loadedFrom put x l a) (rest-none i rest h)
+module _ {A : Type 0} {put : A → ℕ → ℕ → A} {before : A} {l : List ℕ} {at list : ℕ} {x : A} {rest a i : ℕ} (s : Loading put before l at list x rest a i) where
+  pub loading-set : 0 < rest → rest % 2 ≡ 1 → Loading put before l at list (put x i (wordAt l a)) (rest / 2) ((a + 4) % 2 ^ 32) (i + 1)
+  unfolding loadedFrom
+  loading-set h b =
+      record {
+        under = under-set (s .under) h b;
+        whole = s .whole ∙ ap (loadedFrom put x l a) (rest-set i rest (under-reach (s .under) h) b);
+      }
+
+  pub loading-clear : 0 < rest → (rest % 2 ≡ 1 → ⊥) → Loading put before l at list x (rest / 2) a (i + 1)
+  loading-clear h b =
+      record {
+        under = under-clear (s .under) h b;
+        whole = s .whole ∙ ap (loadedFrom put x l a) (rest-clear i rest (under-reach (s .under) h) b);
+      }
+
+  pub loading-last : rest ≤ 0 → loadedFrom put before l at (restOf 0 list) ≡ x
+  unfolding loadedFrom
+  loading-last h = s .whole ∙ ap (loadedFrom put x l a) (rest-none i rest h)
