@@ -56,22 +56,26 @@ foundOf p len = outsideOf len (p .start) 4 (countOf (p .list))
 unfoldable pub backOf : Plan → List ℕ → ℕ → List ℕ
 backOf p regs op = if op ⟨ 21 ⟩ then set regs (op ⟨ 19 ‥ 16 ⟩) (p .moved) else regs
 
--- what is stored of register r: of r15 A + 12, of Rn the moved base where it is written back and a lower register is in the list
+-- Rn is stored moved: it is written back, and a lower register is in the list
+abbrev pub storesMoved : Plan → ℕ → Bool
+storesMoved p op = op ⟨ 21 ⟩ && (0 <? p .list % 2 ^ (op ⟨ 19 ‥ 16 ⟩))
+
+-- what is stored of register r; of r15 it is A + 12
 unfoldable pub sourceOf : Plan → List ℕ → ℕ → ℕ → ℕ
 sourceOf p regs op r =
     if r == 15 then (getD regs 15 0 + 4) % 2 ^ 32
-    else if (r == op ⟨ 19 ‥ 16 ⟩) && (op ⟨ 21 ⟩ && (0 <? p .list % 2 ^ (op ⟨ 19 ‥ 16 ⟩))) then p .moved
+    else if (r == op ⟨ 19 ‥ 16 ⟩) && storesMoved p op then p .moved
     else getD regs r 0
 
 -- memory with a value for each register of the list, in transfer order
-abbrev pub savedOf : Plan → (ℕ → ℕ) → List ℕ → List ℕ
-savedOf p source l = storedOf l (p .start) (countOf (p .list)) (map source (registersOf (p .list)))
+abbrev pub storedListOf : Plan → (ℕ → ℕ) → List ℕ → List ℕ
+storedListOf p source l = storedOf l (p .start) (countOf (p .list)) (map source (registersOf (p .list)))
 
 -- A4.1.97 STM (1)
 unfoldable pub storeOf : Plan → List ℕ → ℕ → List ℕ → Outcome × List ℕ × List ℕ
-storeOf p regs op l = beside (doneOf (backOf p regs op)) (savedOf p (sourceOf p regs op) l)
+storeOf p regs op l = beside (doneOf (backOf p regs op)) (storedListOf p (sourceOf p regs op) l)
 
--- Rn before a load: a base in the list is not written back
+-- W before a load: an Rn that is in the list keeps what is loaded
 unfoldable pub unlistedOf : Plan → List ℕ → ℕ → List ℕ
 unlistedOf p regs op = if p .list ⟨ op ⟨ 19 ‥ 16 ⟩ ⟩ then regs else backOf p regs op
 
@@ -81,19 +85,19 @@ putEach put x [] words = x
 putEach put x (r ∷ rest) words = putEach put (put x r (getD words 0 0)) rest (drop 1 words)
 
 -- a word for each register of the list, in transfer order
-abbrev pub filledOf : {A : Type 0} → Plan → (A → ℕ → ℕ → A) → A → List ℕ → A
-filledOf p put x l = putEach put x (registersOf (p .list)) (wordsAt l (accessesOf (p .start) 4 (countOf (p .list))))
+abbrev pub loadedListOf : {A : Type 0} → Plan → (A → ℕ → ℕ → A) → A → List ℕ → A
+loadedListOf p put x l = putEach put x (registersOf (p .list)) (wordsAt l (accessesOf (p .start) 4 (countOf (p .list))))
 
 abbrev pub loadedOf : Plan → List ℕ → List ℕ → List ℕ
-loadedOf p regs l = filledOf p (λ x r v. set x r v) regs l
+loadedOf p regs l = loadedListOf p (λ x r v. set x r v) regs l
 
 -- where r15 was loaded a branch that takes T from bit 0 of its word, else the next instruction
-unfoldable pub onwardOf : Plan → List ℕ → Outcome × List ℕ
-onwardOf p regs = if p .list ⟨ 15 ⟩ then exchangedOf regs (getD regs 15 0) else doneOf regs
+unfoldable pub continuedOf : Plan → List ℕ → Outcome × List ℕ
+continuedOf p regs = if p .list ⟨ 15 ⟩ then exchangedOf regs (getD regs 15 0) else doneOf regs
 
 -- A4.1.20 LDM (1)
 unfoldable pub loadOf : Plan → List ℕ → ℕ → List ℕ → Outcome × List ℕ × List ℕ
-loadOf p regs op l = beside (onwardOf p (loadedOf p (unlistedOf p regs op) l)) l
+loadOf p regs op l = beside (continuedOf p (loadedOf p (unlistedOf p regs op) l)) l
 
 -- the instruction, S clear; with S (bit 22) it waits for the whole machine
 unfoldable pub blockOf : List ℕ → ℕ → List ℕ → Outcome × List ℕ × List ℕ

@@ -14,7 +14,7 @@ use Rattle.cpu.specs.With.{withRegs}
 use Rattle.banks.specs.Banks.{restoredOf, exchangedTo, userRegOf, withUserReg}
 use Rattle.block.specs.declared.Plan.{Plan}
 use Rattle.block.specs.declared.Blocked.{Blocked}
-use Rattle.block.specs.Block.{planOf, foundOf, backOf, savedOf, unlistedOf, filledOf, loadedOf}
+use Rattle.block.specs.Block.{planOf, foundOf, backOf, storedListOf, unlistedOf, loadedListOf, loadedOf}
 
 -- the machine at the next instruction
 abbrev pub onward : Machine → Machine
@@ -22,21 +22,17 @@ onward m = withRegs m (advanced (m .regs))
 
 -- A4.1.98 STM (2): the User bank's registers are stored; Rn is the current bank's, also where it is written back
 unfoldable pub userStoreOf : Plan → Machine → ℕ → List ℕ → Machine × List ℕ
-userStoreOf p m op l = (onward (withRegs m (backOf p (m .regs) op)), savedOf p (userRegOf m) l)
-
--- the machine after Rn, before the words
-abbrev pub basedOf : Plan → Machine → ℕ → Machine
-basedOf p m op = withRegs m (unlistedOf p (m .regs) op)
+userStoreOf p m op l = (onward (withRegs m (backOf p (m .regs) op)), storedListOf p (userRegOf m) l)
 
 -- the words put into the User bank's registers, r15 by a branch
 abbrev pub userLoadedOf : Plan → Machine → List ℕ → Machine
-userLoadedOf p m l = filledOf p (λ x r v. withUserReg x r v) m l
+userLoadedOf p m l = loadedListOf p (λ x r v. withUserReg x r v) m l
 
 -- A4.1.21 LDM (2)
 unfoldable pub userLoadOf : Plan → Machine → ℕ → List ℕ → Machine
 userLoadOf p m op l =
-    if p .list ⟨ 15 ⟩ then userLoadedOf p (basedOf p m op) l
-    else onward (userLoadedOf p (basedOf p m op) l)
+    let loaded : Machine = userLoadedOf p (withRegs m (unlistedOf p (m .regs) op)) l in
+    if p .list ⟨ 15 ⟩ then loaded else onward loaded
 
 -- A4.1.22 LDM (3): the current bank is loaded, then the saved record comes back, then r15 branches; D1: T is bit 0 of its word
 unfoldable pub returnLoadOf : Plan → Machine → ℕ → List ℕ → Machine
@@ -54,10 +50,10 @@ abbrev pub blocked : Machine → Answer → Blocked
 blocked m answer = record { machine = m; answer = answer }
 
 -- answer 7 with the first access outside, all else as before; or what the transfer does
-unfoldable pub wardedOf : Found → Machine → List ℕ → Machine × List ℕ → Blocked × List ℕ
-wardedOf Inside m l done = (blocked (done .0) Done, done .1)
-wardedOf (Outside address) m l done = (blocked m (Bus address), l)
+unfoldable pub userGuardedOf : Found → Machine → List ℕ → Machine × List ℕ → Blocked × List ℕ
+userGuardedOf Inside m l done = (blocked (done .0) Done, done .1)
+userGuardedOf (Outside address) m l done = (blocked m (Bus address), l)
 
 unfoldable pub userBlockOf : Machine → ℕ → List ℕ → Blocked × List ℕ
 userBlockOf m op l =
-    wardedOf (foundOf (planOf (m .regs) op) (length l)) m l (userMovedOf (planOf (m .regs) op) m op l)
+    userGuardedOf (foundOf (planOf (m .regs) op) (length l)) m l (userMovedOf (planOf (m .regs) op) m op l)

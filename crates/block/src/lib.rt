@@ -2,11 +2,12 @@
 ghost use mathlib.Core.Path.{_≡_};
 ghost use Prim.Native.Nat.{_^_, _<_};
 ghost use lib.ListN.{length};
-ghost use Rattle.block.specs.Block.{listOf, spanOf, startOf, planOf, foundOf, backOf, unlistedOf, loadedOf, onwardOf, storeOf, loadOf, blockOf};
-ghost use Rattle.block.specs.UserBlock.{onward, userStoreOf, basedOf, userLoadedOf, userLoadOf, returnLoadOf, userMovedOf, userBlockOf};
-ghost use Rattle.block.specs.Laws.Loops.{Told};
-ghost use Rattle.block.specs.Laws.Sources.{sourcesOf, savedBy, Values};
+ghost use Rattle.cpu.specs.With.{withRegs};
 ghost use Rattle.banks.specs.Banks.{userRegOf};
+ghost use Rattle.block.specs.Block.{listOf, spanOf, startOf, planOf, foundOf, backOf, unlistedOf, loadedOf, continuedOf, storeOf, loadOf, blockOf};
+ghost use Rattle.block.specs.UserBlock.{onward, userStoreOf, userLoadedOf, userLoadOf, returnLoadOf, userMovedOf, userBlockOf};
+ghost use Rattle.block.specs.Laws.Loops.{Told};
+ghost use Rattle.block.specs.Laws.Sources.{sourcesOf, storedBy, Values};
 use cpu::Answer;
 use cpu::Machine;
 use cpu::Outcome;
@@ -113,7 +114,7 @@ fn take_sources(regs: &[u32; 16], op: u32, p: Plan) -> [u32; 16]
 // The values of the listed registers, in transfer order.
 fn store_listed(values: &[u32; 16], p: Plan, mem: &mut [u8])
     requires { ⌜ Told p (length (now mem)) ⌝ }
-    ensures { λ r. ⌜ now (mem .exit) ≡ savedBy p (now (values .entry)) (now (mem .entry)) ⌝ }
+    ensures { λ r. ⌜ now (mem .exit) ≡ storedBy p (now (values .entry)) (now (mem .entry)) ⌝ }
 {
     let mut rest = p.list;
     let mut a = p.start;
@@ -167,7 +168,7 @@ fn store(regs: &mut [u32; 16], op: u32, p: Plan, mem: &mut [u8]) -> Outcome
 }
 
 fn go_on(regs: &mut [u32; 16], p: Plan) -> Outcome
-    ensures { λ r. ⌜ (r, now (regs .exit)) ≡ onwardOf p (now (regs .entry)) ⌝ }
+    ensures { λ r. ⌜ (r, now (regs .exit)) ≡ continuedOf p (now (regs .entry)) ⌝ }
 {
     if p.list / 32768 % 2 == 1 {
         let to = regs[15];
@@ -250,7 +251,7 @@ fn store_user(m: Machine, op: u32, p: Plan, mem: &mut [u8]) -> Machine
 
 // The machine after the base is written, before the words.
 fn write_base(m: Machine, op: u32, p: Plan) -> Machine
-    ensures { λ r. ⌜ r ≡ basedOf p m op ⌝ }
+    ensures { λ r. ⌜ r ≡ withRegs m (unlistedOf p (m .regs) op) ⌝ }
 {
     let mut regs = m.regs;
     write_unlisted(&mut regs, op, p);

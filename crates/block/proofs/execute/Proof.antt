@@ -27,26 +27,24 @@ loaded c =
     let i = c .before .before .before in
     let n = i .before .before .before in
     let m = n .before in
-    let S = m .before .before .before .before in
-    c .load .ensures
-    ∙ loads (S .args .regs .now) (S .args .op) _ (m .make-plan .ensures .0) (m .before .before .if1 .left) (sym (n .find-outside .ensures) ∙ i .before .enum-told .given .1) (i .if2 .taken)
+    let s = m .before .before .before .before in
+    loads (s .args .regs .now) (s .args .op) _ (m .make-plan .ensures .0) (m .before .before .if1 .left) (sym (n .find-outside .ensures) ∙ i .before .enum-told .given .1) (i .if2 .taken) (c .load .ensures)
 
 stored : tie.Need-returns-3
 stored c =
     let i = c .before .before .before .before .before in
     let n = i .before .before .before in
     let m = n .before in
-    let S = m .before .before .before .before in
-    c .before .before .store .ensures
-    ∙ stores (S .args .regs .now) (S .args .op) _ (m .make-plan .ensures .0) (m .before .before .if1 .left) (sym (n .find-outside .ensures) ∙ i .before .enum-told .given .1) (i .if2 .left)
+    let s = m .before .before .before .before in
+    stores (s .args .regs .now) (s .args .op) _ (m .make-plan .ensures .0) (m .before .before .if1 .left) (sym (n .find-outside .ensures) ∙ i .before .enum-told .given .1) (i .if2 .left) (c .before .before .store .ensures)
 
 refused : tie.Need-returns-4
 refused c =
     let n = c .before .before .before .before in
     let m = n .before in
-    let S = m .before .before .before .before in
+    let s = m .before .before .before .before in
     rw (c .stop-with .ensures)
-    (refuses (S .args .regs .now) (S .args .op) _ (m .make-plan .ensures .0) (m .before .before .if1 .left) _ (sym (n .find-outside .ensures) ∙ c .before .before .found .given .1))
+    (refuses (s .args .regs .now) (s .args .op) _ (m .make-plan .ensures .0) (m .before .before .if1 .left) _ (sym (n .find-outside .ensures) ∙ c .before .before .found .given .1))
 
 pub execute-spec : {M : Type 1} → statement M
 execute-spec =

@@ -1,5 +1,4 @@
 use mathlib.Core.Path.{sym}
-use native.Mathlib.Omega.{arith}
 use borrow.Author.Needs.{needs}
 use Rattle.block.specs.Laws.Loops.{end-inside}
 use Rattle.block.proofs.find_outside.Statement.{statement}

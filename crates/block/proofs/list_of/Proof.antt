@@ -1,6 +1,5 @@
-use native.Mathlib.Omega.{arith}
 use borrow.Author.Needs.{needs}
-use Rattle.bits.specs.Cases.{if_then_else_, cases}
+use Rattle.bits.specs.Cases.{cases}
 use Rattle.block.specs.Block.{listOf}
 use Rattle.block.proofs.list_of.Statement.{statement}
 use Rattle.block.proofs.list_of.Tie as tie

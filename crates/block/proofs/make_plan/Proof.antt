@@ -1,4 +1,3 @@
-use native.Mathlib.Omega.{arith}
 use borrow.Author.Needs.{needs}
 use Rattle.block.specs.Block.{planOf}
 use Rattle.block.proofs.make_plan.Statement.{statement}

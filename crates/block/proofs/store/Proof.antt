@@ -1,7 +1,7 @@
 use mathlib.Core.Path.{_∙_}
 use borrow.Author.Needs.{needs}
 use Rattle.block.specs.Block.{storeOf}
-use Rattle.block.specs.Laws.Sources.{saved-sources}
+use Rattle.block.specs.Laws.Sources.{stored-sources}
 use Rattle.block.specs.Laws.Ways.{besides}
 use Rattle.block.proofs.store.Statement.{statement}
 use Rattle.block.proofs.store.Tie as tie
@@ -13,7 +13,7 @@ returns c =
     let v = m .before .before .before in
     let s = v .before .before .before in
     besides _ (c .finish .ensures)
-    ∙ rw (c .before .before .write-back .ensures, m .store-listed .ensures, saved-sources (s .args .p) (s .args .regs .now) (s .args .op) _ _ (search needs) (v .take-sources .ensures))
+    ∙ rw (c .before .before .write-back .ensures, m .store-listed .ensures, stored-sources (s .args .p) (s .args .regs .now) (s .args .op) _ _ (search needs) (v .take-sources .ensures))
 
 pub store-spec : {M : Type 1} → statement M
 store-spec =

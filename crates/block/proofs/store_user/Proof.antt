@@ -1,7 +1,7 @@
 use borrow.Author.Needs.{needs}
 use Rattle.banks.specs.Banks.{userRegOf}
 use Rattle.block.specs.UserBlock.{userStoreOf}
-use Rattle.block.specs.Laws.Sources.{saved-values}
+use Rattle.block.specs.Laws.Sources.{stored-values}
 use Rattle.block.proofs.store_user.Statement.{statement}
 use Rattle.block.proofs.store_user.Tie as tie
 
@@ -11,7 +11,7 @@ returns c =
     let m = c .before .before .before .before .before .before in
     let v = m .before .before .before in
     let s = v .before .before in
-    rw (c .move-on .ensures, c .before .write-back .ensures, m .store-listed .ensures, saved-values (s .args .p) (userRegOf (s .args .m)) _ _ (v .take-user .ensures))
+    rw (c .move-on .ensures, c .before .write-back .ensures, m .store-listed .ensures, stored-values (s .args .p) (userRegOf (s .args .m)) _ _ (v .take-user .ensures))
 
 pub store-user-spec : {M : Type 1} → statement M
 store-user-spec =

@@ -1,6 +1,6 @@
 use borrow.Author.Needs.{needs}
 use mathlib.Core.Path.{sym, _∙_}
-use Rattle.bits.specs.Cases.{if_then_else_, if-yes, if-no}
+use Rattle.bits.specs.Cases.{if-yes, if-no}
 use Rattle.block.specs.Block.{unlistedOf}
 use Rattle.block.proofs.write_unlisted.Statement.{statement}
 use Rattle.block.proofs.write_unlisted.Tie as tie

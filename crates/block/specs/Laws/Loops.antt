@@ -1,20 +1,19 @@
 -- A transfer a register at a time.
-use mathlib.Core.Path.{_≡_, refl, sym, ap, _∙_}
+use mathlib.Core.Path.{_≡_, refl, ap, _∙_}
 use mathlib.Core.List.{List, [], _∷_, map}
 use Prim.Native.Nat.{ℕ, zero, suc, _+_, _-_, _*_, _/_, _%_, _^_, _≤_, _<_}
 use native.Mathlib.Omega.{arith}
 use native.Mathlib.Nat.{mul-suc}
-use lib.ListN.{length, getD, set}
+use lib.ListN.{length}
 use borrow.Author.Tests.{le-ltb}
 use Rattle.bits.specs.Cases.{if-no}
 use Rattle.memory.specs.Bytes.{wordAt, putWord}
 use Rattle.memory.specs.Plans.{accessesOf, firstOut, outsideOf, wordsAt, putWords, storedOf}
-use Rattle.memory.specs.Laws.Plans.{inside-next, out-later}
+use Rattle.memory.specs.Laws.Plans.{inside-next}
 use Rattle.memory.specs.Laws.Bytes.{length-word}
-use Rattle.memory.specs.declared.Found.{Found}
-use Rattle.memory.specs.declared.Found.the-variants.{Inside, Outside}
+use Rattle.memory.specs.declared.Found.the-variants.{Inside}
 use Rattle.block.specs.declared.Plan.{Plan}
-use Rattle.block.specs.Block.{registersOf, countOf, foundOf, savedOf, putEach, filledOf}
+use Rattle.block.specs.Block.{foundOf, storedListOf, putEach, loadedListOf}
 use Rattle.block.specs.Laws.Lists.{restOf, halved-is, rest-set, rest-clear, rest-small, rest-reach, rest-none, count-rest}
 
 -- belongs in memory: a run whose end lies inside lies inside
@@ -58,56 +57,91 @@ module _ {len rest a i : ℕ} (u : Under len rest a i) (h : 0 < rest) where
       record { small = rest-small i rest under-reach (u .small); inside = rw (rest-clear i rest under-reach b) at (u .inside) }
 
 -- a store, a register at a time
-unfoldable pub savedFrom : (ℕ → ℕ) → List ℕ → ℕ → List ℕ → List ℕ
-savedFrom source l at [] = l
-savedFrom source l at (r ∷ rest) = savedFrom source (putWord l at (source r)) ((at + 4) % 2 ^ 32) rest
+unfoldable pub storedFrom : (ℕ → ℕ) → List ℕ → ℕ → List ℕ → List ℕ
+storedFrom source l at [] = l
+storedFrom source l at (r ∷ rest) = storedFrom source (putWord l at (source r)) ((at + 4) % 2 ^ 32) rest
 
-saved-from : (source : ℕ → ℕ) (l : List ℕ) (at : ℕ) (rs : List ℕ) → storedOf l at (length rs) (map source rs) ≡ savedFrom source l at rs
-unfolding storedOf putWords accessesOf savedFrom
-saved-from source l at [] = refl
-saved-from source l at (r ∷ rs) = saved-from source (putWord l at (source r)) ((at + 4) % 2 ^ 32) rs
+stored-from : (source : ℕ → ℕ) (l : List ℕ) (at : ℕ) (rs : List ℕ) → storedOf l at (length rs) (map source rs) ≡ storedFrom source l at rs
+unfolding storedOf putWords accessesOf storedFrom
+stored-from source l at [] = refl
+stored-from source l at (r ∷ rs) = stored-from source (putWord l at (source r)) ((at + 4) % 2 ^ 32) rs
 
-pub saved-is : (p : Plan) (source : ℕ → ℕ) (l : List ℕ) → p .list < 2 ^ 16 → savedOf p source l ≡ savedFrom source l (p .start) (restOf 0 (p .list))
-saved-is p source l h =
-    rw (halved-is (p .list), count-rest (p .list) h) (saved-from source l (p .start) (restOf 0 (p .list)))
+pub stored-is : (p : Plan) (source : ℕ → ℕ) (l : List ℕ) → p .list < 2 ^ 16 → storedListOf p source l ≡ storedFrom source l (p .start) (restOf 0 (p .list))
+stored-is p source l h =
+    rw (halved-is (p .list), count-rest (p .list) h) (stored-from source l (p .start) (restOf 0 (p .list)))
 
-module _ (source : ℕ → ℕ) (l : List ℕ) (a i rest : ℕ) where
-  pub save-set : i < 16 → rest % 2 ≡ 1
-      → savedFrom source l a (restOf i rest) ≡ savedFrom source (putWord l a (source i)) ((a + 4) % 2 ^ 32) (restOf (i + 1) (rest / 2))
-  unfolding savedFrom
-  save-set h b = ap (savedFrom source l a) (rest-set i rest h b)
+-- A store under way: what is to come makes of l what the whole makes of memory as it was.
+pub record Storing (source : ℕ → ℕ) (before : List ℕ) (at list : ℕ) (l : List ℕ) (rest a i : ℕ) : Type 0 where
+  pub under : Under (length l) rest a i
+  pub whole : storedFrom source before at (restOf 0 list) ≡ storedFrom source l a (restOf i rest)
+  pub long : length l ≡ length before
 
-  pub save-clear : i < 16 → (rest % 2 ≡ 1 → ⊥) → savedFrom source l a (restOf i rest) ≡ savedFrom source l a (restOf (i + 1) (rest / 2))
-  save-clear h b = ap (savedFrom source l a) (rest-clear i rest h b)
+pub storing-first : (p : Plan) (source : ℕ → ℕ) (l : List ℕ) → Told p (length l) → Storing source l (p .start) (p .list) l (p .list) (p .start) 0
+storing-first p source l t = record { under = under-first p (length l) t; whole = refl; long = refl }
 
-  pub save-none : rest ≤ 0 → savedFrom source l a (restOf i rest) ≡ l
-  unfolding savedFrom
-  save-none h = ap (savedFrom source l a) (rest-none i rest h)
+module _ {source : ℕ → ℕ} {before : List ℕ} {at list : ℕ} {l : List ℕ} {rest a i : ℕ} (s : Storing source before at list l rest a i) where
+  pub storing-set : 0 < rest → rest % 2 ≡ 1 → Storing source before at list (putWord l a (source i)) (rest / 2) ((a + 4) % 2 ^ 32) (i + 1)
+  unfolding storedFrom
+  storing-set h b =
+      let n : length (putWord l a (source i)) ≡ length l = length-word l a (source i) in
+      record {
+        under = rw n (under-set (s .under) h b);
+        whole = s .whole ∙ ap (storedFrom source l a) (rest-set i rest (under-reach (s .under) h) b);
+        long = n ∙ s .long;
+      }
+
+  pub storing-clear : 0 < rest → (rest % 2 ≡ 1 → ⊥) → Storing source before at list l (rest / 2) a (i + 1)
+  storing-clear h b =
+      record {
+        under = under-clear (s .under) h b;
+        whole = s .whole ∙ ap (storedFrom source l a) (rest-clear i rest (under-reach (s .under) h) b);
+        long = s .long;
+      }
+
+  pub storing-last : rest ≤ 0 → storedFrom source before at (restOf 0 list) ≡ l
+  unfolding storedFrom
+  storing-last h = s .whole ∙ ap (storedFrom source l a) (rest-none i rest h)
 
 -- a load, a register at a time
-unfoldable pub filledFrom : {A : Type 0} → (A → ℕ → ℕ → A) → A → List ℕ → ℕ → List ℕ → A
-filledFrom put x l at [] = x
-filledFrom put x l at (r ∷ rest) = filledFrom put (put x r (wordAt l at)) l ((at + 4) % 2 ^ 32) rest
+unfoldable pub loadedFrom : {A : Type 0} → (A → ℕ → ℕ → A) → A → List ℕ → ℕ → List ℕ → A
+loadedFrom put x l at [] = x
+loadedFrom put x l at (r ∷ rest) = loadedFrom put (put x r (wordAt l at)) l ((at + 4) % 2 ^ 32) rest
 
 module _ {A : Type 0} (put : A → ℕ → ℕ → A) where
-  filled-from : (x : A) (l : List ℕ) (at : ℕ) (rs : List ℕ) → putEach put x rs (wordsAt l (accessesOf at 4 (length rs))) ≡ filledFrom put x l at rs
-  unfolding putEach wordsAt accessesOf filledFrom
-  filled-from x l at [] = refl
-  filled-from x l at (r ∷ rs) = filled-from (put x r (wordAt l at)) l ((at + 4) % 2 ^ 32) rs
+  loaded-from : (x : A) (l : List ℕ) (at : ℕ) (rs : List ℕ) → putEach put x rs (wordsAt l (accessesOf at 4 (length rs))) ≡ loadedFrom put x l at rs
+  unfolding putEach wordsAt accessesOf loadedFrom
+  loaded-from x l at [] = refl
+  loaded-from x l at (r ∷ rs) = loaded-from (put x r (wordAt l at)) l ((at + 4) % 2 ^ 32) rs
 
-  pub filled-is : (p : Plan) (x : A) (l : List ℕ) → p .list < 2 ^ 16 → filledOf p put x l ≡ filledFrom put x l (p .start) (restOf 0 (p .list))
-  filled-is p x l h =
-      rw (halved-is (p .list), count-rest (p .list) h) (filled-from x l (p .start) (restOf 0 (p .list)))
+  pub loaded-is : (p : Plan) (x : A) (l : List ℕ) → p .list < 2 ^ 16 → loadedListOf p put x l ≡ loadedFrom put x l (p .start) (restOf 0 (p .list))
+  loaded-is p x l h =
+      rw (halved-is (p .list), count-rest (p .list) h) (loaded-from x l (p .start) (restOf 0 (p .list)))
 
-  module _ (x : A) (l : List ℕ) (a i rest : ℕ) where
-    pub fill-set : i < 16 → rest % 2 ≡ 1
-        → filledFrom put x l a (restOf i rest) ≡ filledFrom put (put x i (wordAt l a)) l ((a + 4) % 2 ^ 32) (restOf (i + 1) (rest / 2))
-    unfolding filledFrom
-    fill-set h b = ap (filledFrom put x l a) (rest-set i rest h b)
+-- A load under way, into registers or a machine.
+pub record Loading {A : Type 0} (put : A → ℕ → ℕ → A) (before : A) (l : List ℕ) (at list : ℕ) (x : A) (rest a i : ℕ) : Type 0 where
+  pub under : Under (length l) rest a i
+  pub whole : loadedFrom put before l at (restOf 0 list) ≡ loadedFrom put x l a (restOf i rest)
 
-    pub fill-clear : i < 16 → (rest % 2 ≡ 1 → ⊥) → filledFrom put x l a (restOf i rest) ≡ filledFrom put x l a (restOf (i + 1) (rest / 2))
-    fill-clear h b = ap (filledFrom put x l a) (rest-clear i rest h b)
+pub loading-first : {A : Type 0} (p : Plan) (put : A → ℕ → ℕ → A) (x : A) (l : List ℕ) → Told p (length l)
+    → Loading put x l (p .start) (p .list) x (p .list) (p .start) 0
+loading-first p put x l t = record { under = under-first p (length l) t; whole = refl }
 
-    pub fill-none : rest ≤ 0 → filledFrom put x l a (restOf i rest) ≡ x
-    unfolding filledFrom
-    fill-none h = ap (filledFrom put x l a) (rest-none i rest h)
+module _ {A : Type 0} {put : A → ℕ → ℕ → A} {before : A} {l : List ℕ} {at list : ℕ} {x : A} {rest a i : ℕ} (s : Loading put before l at list x rest a i) where
+  pub loading-set : 0 < rest → rest % 2 ≡ 1 → Loading put before l at list (put x i (wordAt l a)) (rest / 2) ((a + 4) % 2 ^ 32) (i + 1)
+  unfolding loadedFrom
+  loading-set h b =
+      record {
+        under = under-set (s .under) h b;
+        whole = s .whole ∙ ap (loadedFrom put x l a) (rest-set i rest (under-reach (s .under) h) b);
+      }
+
+  pub loading-clear : 0 < rest → (rest % 2 ≡ 1 → ⊥) → Loading put before l at list x (rest / 2) a (i + 1)
+  loading-clear h b =
+      record {
+        under = under-clear (s .under) h b;
+        whole = s .whole ∙ ap (loadedFrom put x l a) (rest-clear i rest (under-reach (s .under) h) b);
+      }
+
+  pub loading-last : rest ≤ 0 → loadedFrom put before l at (restOf 0 list) ≡ x
+  unfolding loadedFrom
+  loading-last h = s .whole ∙ ap (loadedFrom put x l a) (rest-none i rest h)

@@ -4,28 +4,23 @@ use mathlib.Core.Bool.{Bool, true, false, _&&_}
 use mathlib.Core.List.{List}
 use Prim.Native.Nat.{ℕ, _+_, _%_, _^_, _<_}
 use native.Mathlib.Omega.{arith}
-use lib.Dec.{eqb}
 use lib.ListN.{length, getD, set, length-set}
 use lib.Seq.{getD-set-same, getD-set-other}
-use borrow.Author.Tests.{eqb-true, eqb-false, eq-eqb, ne-eqb}
-use Rattle.bits.specs.Cases.{if_then_else_, _==_, _<?_, if-yes, if-no, if-both}
+use borrow.Author.Tests.{eqb-true, eqb-false}
+use Rattle.bits.specs.Cases.{if_then_else_, _==_, if-yes, if-no, if-both}
 use Rattle.bits.specs.Fields.{_⟨_⟩, _⟨_‥_⟩}
 use Rattle.block.specs.declared.Plan.{Plan}
 use Rattle.memory.specs.Plans.{storedOf}
-use Rattle.block.specs.Block.{countOf, sourceOf, savedOf}
+use Rattle.block.specs.Block.{countOf, storesMoved, sourceOf, storedListOf}
 use Rattle.block.specs.Laws.Lists.{same-registers}
-
--- the base is stored moved: it is written back, and a lower register is in the list
-abbrev pub moves : Plan → ℕ → Bool
-moves p op = op ⟨ 21 ⟩ && (0 <? p .list % 2 ^ (op ⟨ 19 ‥ 16 ⟩))
 
 unfoldable pub sourcesOf : Plan → List ℕ → ℕ → List ℕ
 sourcesOf p regs op =
-    set (if moves p op then set regs (op ⟨ 19 ‥ 16 ⟩) (p .moved) else regs) 15 ((getD regs 15 0 + 4) % 2 ^ 32)
+    set (if storesMoved p op then set regs (op ⟨ 19 ‥ 16 ⟩) (p .moved) else regs) 15 ((getD regs 15 0 + 4) % 2 ^ 32)
 
 -- memory with the listed registers' own values
-abbrev pub savedBy : Plan → List ℕ → List ℕ → List ℕ
-savedBy p values l = savedOf p (λ r. getD values r 0) l
+abbrev pub storedBy : Plan → List ℕ → List ℕ → List ℕ
+storedBy p values l = storedListOf p (λ r. getD values r 0) l
 
 -- the first n of the values are those of the registers
 abbrev pub Values : List ℕ → (ℕ → ℕ) → ℕ → Type 0
@@ -38,8 +33,8 @@ values-next values source n v k e h r b = go (r == n) refl
     go true d = rw (eqb-true r n d) (getD-set-same values n v 0 k ∙ e)
     go false d = let f : r ≡ n → ⊥ = eqb-false r n d in getD-set-other values n r v 0 f ∙ h r (omega arith)
 
-pub saved-values : (p : Plan) (source : ℕ → ℕ) (values l : List ℕ) → Values values source 16 → savedBy p values l ≡ savedOf p source l
-saved-values p source values l h =
+pub stored-values : (p : Plan) (source : ℕ → ℕ) (values l : List ℕ) → Values values source 16 → storedBy p values l ≡ storedListOf p source l
+stored-values p source values l h =
     ap (storedOf l (p .start) (countOf (p .list))) (same-registers (λ r. getD values r 0) source (p .list) h)
 
 and-false : (b : Bool) → (b && false) ≡ false
@@ -48,14 +43,14 @@ and-false false = refl
 
 module _ (p : Plan) (regs : List ℕ) (op : ℕ) (sixteen : length regs ≡ 16) where
   based : List ℕ
-  based = if moves p op then set regs (op ⟨ 19 ‥ 16 ⟩) (p .moved) else regs
+  based = if storesMoved p op then set regs (op ⟨ 19 ‥ 16 ⟩) (p .moved) else regs
 
   length-based : length based ≡ 16
   unfolding based
   length-based = if-both (λ (x : List ℕ). length x ≡ 16) _ (length-set regs _ _ ∙ sixteen) sixteen
 
-  base-at : (r : ℕ) (t u : Bool) → moves p op ≡ t → (r == op ⟨ 19 ‥ 16 ⟩) ≡ u
-      → getD based r 0 ≡ (if (r == op ⟨ 19 ‥ 16 ⟩) && moves p op then p .moved else getD regs r 0)
+  base-at : (r : ℕ) (t u : Bool) → storesMoved p op ≡ t → (r == op ⟨ 19 ‥ 16 ⟩) ≡ u
+      → getD based r 0 ≡ (if (r == op ⟨ 19 ‥ 16 ⟩) && storesMoved p op then p .moved else getD regs r 0)
   unfolding based if_then_else_
   base-at r true true e d =
       let n : ℕ = op ⟨ 19 ‥ 16 ⟩ in
@@ -71,7 +66,7 @@ module _ (p : Plan) (regs : List ℕ) (op : ℕ) (sixteen : length regs ≡ 16) 
       rw (eqb-true r 15 e) (getD-set-same based 15 _ 0 f ∙ sym (if-yes _ _ _ refl))
   source-on r false e =
       getD-set-other based 15 r _ 0 (eqb-false r 15 e)
-      ∙ base-at r (moves p op) (r == op ⟨ 19 ‥ 16 ⟩) refl refl
+      ∙ base-at r (storesMoved p op) (r == op ⟨ 19 ‥ 16 ⟩) refl refl
       ∙ sym (if-no _ _ _ e)
 
   source-each : Values (sourcesOf p regs op) (sourceOf p regs op) 16
@@ -81,10 +76,10 @@ module _ (p : Plan) (regs : List ℕ) (op : ℕ) (l : List ℕ) where
   length-sources : length (sourcesOf p regs op) ≡ length regs
   unfolding sourcesOf
   length-sources =
-      length-set (if moves p op then set regs (op ⟨ 19 ‥ 16 ⟩) (p .moved) else regs) 15 _
+      length-set (if storesMoved p op then set regs (op ⟨ 19 ‥ 16 ⟩) (p .moved) else regs) 15 _
       ∙ if-both (λ (x : List ℕ). length x ≡ length regs) _ (length-set regs _ _) refl
 
-  pub saved-sources : (values : List ℕ) → length values ≡ 16 → values ≡ sourcesOf p regs op → savedBy p values l ≡ savedOf p (sourceOf p regs op) l
-  saved-sources values h e =
+  pub stored-sources : (values : List ℕ) → length values ≡ 16 → values ≡ sourcesOf p regs op → storedBy p values l ≡ storedListOf p (sourceOf p regs op) l
+  stored-sources values h e =
       let sixteen : length regs ≡ 16 = sym length-sources ∙ ap length (sym e) ∙ h in
-      rw e (saved-values p (sourceOf p regs op) (sourcesOf p regs op) l (source-each p regs op sixteen))
+      rw e (stored-values p (sourceOf p regs op) (sourcesOf p regs op) l (source-each p regs op sixteen))
