@@ -11,6 +11,9 @@ use Rattle.psr.specs.Status.{modeOf, wordOf, statusOf}
 use Rattle.alu.specs.declared.Sum.{Sum}
 use Rattle.alu.specs.Sums.{sbcOf, adcOf, negative}
 use Rattle.alu.specs.Numbers.{Pair, wordsOf, lastOf}
+use Rattle.alu.specs.Saturation.{clampOf, saturatedOf, signedSatOf}
+use Rattle.products.specs.Products.{longOf, stickyOf, totalOf, halfOf, umaalOf, heldOf, qaddOf, doubledOf, qdaddOf}
+use Rattle.products.specs.Duals.{secondOf, dualOf, smuadOf}
 use Rattle.shifter.specs.declared.ShiftType.the-variants.{Lsl, Lsr, Asr, Ror}
 use Rattle.shifter.specs.declared.ShiftType.{ShiftType}
 use Rattle.shifter.specs.Shifts.{operand, shiftedOf, signsOf, byImmediateOf, byRegisterOf}
@@ -31,6 +34,9 @@ pub record Table : Type 0 where
   p7 : sbcOf 0 0xFFFF_FFFF false ≡ sum 0 false false
   p8 : adcOf 0x7FFF_FFFF 0 true ≡ sum 0x8000_0000 false true
   p8-n : negative 0x8000_0000 ≡ true
+  p9 : umaalOf 0xFFFF_FFFF 0xFFFF_FFFF 0xFFFF_FFFF 0xFFFF_FFFF ≡ record { lo = 0xFFFF_FFFF; hi = 0xFFFF_FFFF }
+  p10 : qdaddOf 0xFFFF_FFFF 0x7FFF_FFFF false ≡ record { value = 0x7FFF_FFFE; q = true }
+  p11 : smuadOf 0x8000_8000 0x8000_8000 false false ≡ record { value = 0x8000_0000; q = true }
   p12 : wordOf (statusOf 0xFFFF_FFFF) ≡ 0xF80F_03FF
   p12-zero : wordOf (statusOf 0) ≡ 0x0000_0010
   p13 : wordsOf sbcOf true (pair 0 1 ∷ pair 1 0 ∷ []) ≡ 0xFFFF_FFFF ∷ 0 ∷ []
@@ -44,7 +50,7 @@ keeps Asr value carry = refl
 keeps Ror value carry = refl
 
 pub table : Table
-unfolding if_then_else_ signed outside rotatedOf modeOf wordOf statusOf sbcOf adcOf shiftedOf signsOf byImmediateOf byRegisterOf
+unfolding if_then_else_ signed outside rotatedOf modeOf wordOf statusOf sbcOf adcOf shiftedOf signsOf byImmediateOf byRegisterOf umaalOf longOf qdaddOf doubledOf qaddOf heldOf totalOf signedSatOf saturatedOf clampOf smuadOf stickyOf dualOf secondOf halfOf
 table =
     record {
       p1 = λ c. refl;
@@ -56,6 +62,9 @@ table =
       p7 = refl;
       p8 = refl;
       p8-n = refl;
+      p9 = refl;
+      p10 = refl;
+      p11 = refl;
       p12 = refl;
       p12-zero = refl;
       p13 = refl;

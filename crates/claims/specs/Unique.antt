@@ -1,12 +1,17 @@
 -- No room for a second outcome (document 01, section 7): for each public call, two outcomes that meet its promise are the same.
 use mathlib.Core.Path.{_≡_, sym, _∙_}
 use mathlib.Core.Bool.{Bool}
+use mathlib.Core.List.{List}
 use Prim.Native.Nat.{ℕ}
 use Rattle.psr.specs.declared.Status.{Status}
 use Rattle.psr.specs.declared.Packed.{Packed}
 use Rattle.psr.specs.Status.{Packs, Unpacks}
 use Rattle.shifter.specs.declared.Operand.{Operand}
 use Rattle.shifter.specs.Shifts.{ShiftsByImmediate, ShiftsByRegister}
+use Rattle.cpu.specs.declared.Machine.{Machine}
+use Rattle.engine.specs.declared.Stepped.{Stepped}
+use Rattle.engine.specs.declared.Finished.{Finished}
+use Rattle.engine.specs.Promises.{Steps, StepsWith, Runs}
 
 -- each promise is an equation with a value that the input gives
 same : {X : Type 0} {value r t : X} → r ≡ value → t ≡ value → r ≡ t
@@ -25,3 +30,13 @@ shifting-by-immediate kind value amount carry r t p q = same p q
 pub shifting-by-register : (kind value amount : ℕ) (carry : Bool) (r t : Operand)
     → ShiftsByRegister kind value amount carry r → ShiftsByRegister kind value amount carry t → r ≡ t
 shifting-by-register kind value amount carry r t p q = same p q
+
+-- of a step and a run: the answer, the whole machine and every lent byte
+pub stepping : (m : Machine) (l : List ℕ) (r t : Stepped × List ℕ) → Steps m l r → Steps m l t → r ≡ t
+stepping m l r t p q = same p q
+
+pub stepping-with-an-opcode : (m : Machine) (op : ℕ) (l : List ℕ) (r t : Stepped × List ℕ) → StepsWith m op l r → StepsWith m op l t → r ≡ t
+stepping-with-an-opcode m op l r t p q = same p q
+
+pub running : (m : Machine) (l : List ℕ) (budget : ℕ) (r t : Finished × List ℕ) → Runs m l budget r → Runs m l budget t → r ≡ t
+running m l budget r t p q = same p q

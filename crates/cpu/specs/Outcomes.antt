@@ -7,7 +7,7 @@ use Rattle.bits.specs.Cases.{if_then_else_, _==_}
 use Rattle.bits.specs.Fields.{_⟨_⟩}
 use Rattle.alu.specs.Sums.{negative}
 use Rattle.cpu.specs.declared.Answer.{Answer}
-use Rattle.cpu.specs.declared.Answer.the-variants.{Done, Supervisor, Undefined}
+use Rattle.cpu.specs.declared.Answer.the-variants.{Done, Undefined}
 use Rattle.cpu.specs.declared.Kind.{Kind}
 use Rattle.cpu.specs.declared.Kind.the-variants.{Nothing, Flags, Sticky, Lanes, Exchange, Tagged, Untagged, Return, Moves, Block, Call, Stop}
 use Rattle.cpu.specs.declared.Outcome.{Outcome}
@@ -58,9 +58,9 @@ moves = leaves Moves false false false false false 0 0 Done
 abbrev pub block : Outcome
 block = leaves Block false false false false false 0 0 Done
 
--- answer 1, with the registers as they now stand
+-- answer 1 with a number, and the registers as they now stand
 abbrev pub calls : ℕ → Outcome
-calls number = leaves Call false false false false false 0 0 (Supervisor number)
+calls number = leaves Call false false false false false 0 number Done
 
 -- any other answer: the machine is to be as it was before the step
 abbrev pub stops : Answer → Outcome

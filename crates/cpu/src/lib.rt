@@ -398,8 +398,8 @@ pub fn call(number: u32) -> Outcome
         false,
         false,
         0,
-        0,
-        Answer::Supervisor(number),
+        number,
+        Answer::Done,
     )
 }
 

@@ -2,3 +2,4 @@
 pub mod Gate
 pub mod Fetch
 pub mod Going
+pub mod AsBefore

@@ -9,7 +9,7 @@ use Rattle.memory.specs.Bytes.{wordAt}
 use Rattle.memory.specs.Plans.{reachesOut}
 use Rattle.cpu.specs.declared.Machine.{Machine}
 use Rattle.cpu.specs.declared.Answer.{Answer}
-use Rattle.cpu.specs.declared.Answer.the-variants.{Done, Thumb, Fetch, BadState, TooLong}
+use Rattle.cpu.specs.declared.Answer.the-variants.{Done, Supervisor, Thumb, Fetch, BadState, TooLong}
 use Rattle.cpu.specs.declared.Kind.{Kind}
 use Rattle.cpu.specs.declared.Kind.the-variants.{Nothing, Flags, Sticky, Lanes, Exchange, Tagged, Untagged, Return, Moves, Block, Call, Stop}
 use Rattle.cpu.specs.declared.Outcome.{Outcome}
@@ -52,7 +52,7 @@ settledOf Untagged m at op o l = (going (withTag m None), l)
 settledOf Return m at op o l = (going (returnedOf m (o .at)), l)
 settledOf Moves m at op o l = (going (movesOf m op), l)
 settledOf Block m at op o l = blockedOf at (userBlockOf m op l)
-settledOf Call m at op o l = (stepped m (o .answer), l)
+settledOf Call m at op o l = (stepped m (Supervisor (o .at)), l)
 settledOf Stop m at op o l = (refused m at (o .answer), l)
 
 -- the address A of the next instruction

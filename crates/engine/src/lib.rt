@@ -2,8 +2,8 @@
 ghost use mathlib.Core.Path.{_≡_};
 ghost use Rattle.cpu.specs.With.{withTag};
 ghost use Rattle.block.specs.UserBlock.{userBlockOf};
-ghost use Rattle.engine.specs.Step.{blockedOf, settledOf, executedOf, takenOf, givenOf, stepOf, stepWithOf, fetches};
-ghost use Rattle.engine.specs.Run.{runOf};
+ghost use Rattle.engine.specs.Step.{blockedOf, settledOf, executedOf, takenOf, givenOf, fetches};
+ghost use Rattle.engine.specs.Promises.{Steps, StepsWith, Runs};
 ghost use Rattle.engine.specs.Laws.Gate.{gateOf};
 use cpu::Answer;
 use cpu::Kind;
@@ -150,13 +150,10 @@ fn settle(m: Machine, at: u32, op: u32, o: Outcome, mem: &mut [u8]) -> Stepped
             answer: Answer::Done,
         },
         Kind::Block => settle_block(cur, at, op, mem),
-        Kind::Call => {
-            let answer = o.answer;
-            Stepped {
-                machine: cur,
-                answer,
-            }
-        }
+        Kind::Call => Stepped {
+            machine: cur,
+            answer: Answer::Supervisor(o.at),
+        },
         Kind::Stop => {
             cur.regs[15] = at;
             let answer = o.answer;
@@ -209,7 +206,7 @@ fn take(m: Machine, mem: &mut [u8]) -> Stepped
 }
 
 pub fn step(m: Machine, mem: &mut [u8]) -> Stepped
-    ensures { λ r. ⌜ (r, now (mem .exit)) ≡ stepOf m (now (mem .entry)) ⌝ }
+    ensures { λ r. ⌜ Steps m (now (mem .entry)) (r, now (mem .exit)) ⌝ }
 {
     let gate = admit(m, mem.len());
     match gate {
@@ -219,7 +216,7 @@ pub fn step(m: Machine, mem: &mut [u8]) -> Stepped
 }
 
 pub fn step_opcode(m: Machine, op: u32, mem: &mut [u8]) -> Stepped
-    ensures { λ r. ⌜ (r, now (mem .exit)) ≡ stepWithOf m op (now (mem .entry)) ⌝ }
+    ensures { λ r. ⌜ StepsWith m op (now (mem .entry)) (r, now (mem .exit)) ⌝ }
 {
     let gate = admit(m, mem.len());
     match gate {
@@ -245,7 +242,7 @@ fn give(m: Machine, op: u32, mem: &mut [u8]) -> Stepped
 
 // At most budget steps, each with its own gate.
 pub fn run(m: Machine, mem: &mut [u8], budget: u32) -> Finished
-    ensures { λ r. ⌜ (r, now (mem .exit)) ≡ runOf budget m (now (mem .entry)) ⌝ }
+    ensures { λ r. ⌜ Runs m (now (mem .entry)) budget (r, now (mem .exit)) ⌝ }
 {
     let mut cur = m;
     let mut k: u32 = 0;

@@ -1,5 +1,4 @@
 -- Laws that proofs cite; nothing here has to be believed.
-pub mod Guards
 pub mod Loads
 pub mod Kinds
 pub mod Stores

@@ -2,4 +2,3 @@
 pub mod Products
 pub mod Duals
 pub mod Manual
-pub mod Rows

@@ -1,7 +1,7 @@
 use mathlib.Core.Path.{refl}
 use borrow.Author.Needs.{needs}
 use Rattle.arm.specs.Turn.{effectOf}
-use Rattle.arm.specs.Laws.Beside.{with-bytes}
+use Rattle.transfer.specs.Laws.Guards.{beside-is}
 use Rattle.arm.proofs.execute.Statement.{statement}
 use Rattle.arm.proofs.execute.Tie as tie
 
@@ -52,15 +52,15 @@ execute-cold-requires-15 c κs = rw (c .before .before .enum-told24 .given .1) r
 
 returns : tie.Need-returns
 unfolding effectOf
-returns c = rw (c .before .before .enum-told .given .1) (with-bytes (c .execute .ensures))
+returns c = rw (c .before .before .enum-told .given .1) (beside-is (c .execute .ensures))
 
 returns-2 : tie.Need-returns-2
 unfolding effectOf
-returns-2 c = rw (c .before .before .enum-told2 .given .1) (with-bytes (c .short .ensures))
+returns-2 c = rw (c .before .before .enum-told2 .given .1) (beside-is (c .short .ensures))
 
 returns-3 : tie.Need-returns-3
 unfolding effectOf
-returns-3 c = rw (c .before .before .enum-told3 .given .1) (with-bytes (c .long .ensures))
+returns-3 c = rw (c .before .before .enum-told3 .given .1) (beside-is (c .long .ensures))
 
 returns-4 : tie.Need-returns-4
 unfolding effectOf
@@ -88,11 +88,11 @@ returns-9 c = c .before .before .execute-cold6 .ensures
 
 returns-10 : tie.Need-returns-10
 unfolding effectOf
-returns-10 c = rw (c .before .before .enum-told10 .given .1) (with-bytes (c .branch-exchange .ensures))
+returns-10 c = rw (c .before .before .enum-told10 .given .1) (beside-is (c .branch-exchange .ensures))
 
 returns-11 : tie.Need-returns-11
 unfolding effectOf
-returns-11 c = rw (c .before .before .enum-told11 .given .1) (with-bytes (c .clz .ensures))
+returns-11 c = rw (c .before .before .enum-told11 .given .1) (beside-is (c .clz .ensures))
 
 returns-12 : tie.Need-returns-12
 unfolding effectOf
@@ -104,7 +104,7 @@ returns-13 c = rw (c .before .before .before .before .before .enum-told13 .given
 
 returns-14 : tie.Need-returns-14
 unfolding effectOf
-returns-14 c = rw (c .before .before .enum-told14 .given .1) (with-bytes (c .execute2 .ensures))
+returns-14 c = rw (c .before .before .enum-told14 .given .1) (beside-is (c .execute2 .ensures))
 
 returns-15 : tie.Need-returns-15
 unfolding effectOf
@@ -112,7 +112,7 @@ returns-15 c = rw (c .before .before .before .before .before .enum-told15 .given
 
 returns-16 : tie.Need-returns-16
 unfolding effectOf
-returns-16 c = rw (c .before .before .enum-told16 .given .1) (with-bytes (c .branch .ensures))
+returns-16 c = rw (c .before .before .enum-told16 .given .1) (beside-is (c .branch .ensures))
 
 returns-17 : tie.Need-returns-17
 unfolding effectOf

@@ -1,7 +1,7 @@
 use mathlib.Core.Path.{refl}
 use borrow.Author.Needs.{needs}
 use Rattle.arm.specs.Turn.{effectOf}
-use Rattle.arm.specs.Laws.Beside.{with-bytes}
+use Rattle.transfer.specs.Laws.Guards.{beside-is}
 use Rattle.arm.specs.Laws.Cold.{not-cold}
 use Rattle.arm.proofs.execute_cold.Statement.{statement}
 use Rattle.arm.proofs.execute_cold.Tie as tie
@@ -20,11 +20,11 @@ returns-3 c = not-cold (c .before .before .before .before .before .pre) (c .befo
 
 returns-4 : tie.Need-returns-4
 unfolding effectOf
-returns-4 c = rw (c .before .before .enum-told4 .given .1) (with-bytes (c .halfword .ensures))
+returns-4 c = rw (c .before .before .enum-told4 .given .1) (beside-is (c .halfword .ensures))
 
 returns-5 : tie.Need-returns-5
 unfolding effectOf
-returns-5 c = rw (c .before .before .enum-told5 .given .1) (with-bytes (c .saturating .ensures))
+returns-5 c = rw (c .before .before .enum-told5 .given .1) (beside-is (c .saturating .ensures))
 
 returns-6 : tie.Need-returns-6
 unfolding effectOf
@@ -52,7 +52,7 @@ returns-11 c = not-cold (c .before .before .before .before .before .pre) (c .bef
 
 returns-12 : tie.Need-returns-12
 unfolding effectOf
-returns-12 c = rw (c .before .before .enum-told12 .given .1) (with-bytes (c .breakpoint .ensures))
+returns-12 c = rw (c .before .before .enum-told12 .given .1) (beside-is (c .breakpoint .ensures))
 
 returns-13 : tie.Need-returns-13
 unfolding effectOf
@@ -72,27 +72,27 @@ returns-16 c = not-cold (c .before .before .before .before .before .pre) (c .bef
 
 returns-17 : tie.Need-returns-17
 unfolding effectOf
-returns-17 c = rw (c .before .before .enum-told17 .given .1) (with-bytes (c .coprocessor .ensures))
+returns-17 c = rw (c .before .before .enum-told17 .given .1) (beside-is (c .coprocessor .ensures))
 
 returns-18 : tie.Need-returns-18
 unfolding effectOf
-returns-18 c = rw (c .before .before .enum-told18 .given .1) (with-bytes (c .coprocessor-register .ensures))
+returns-18 c = rw (c .before .before .enum-told18 .given .1) (beside-is (c .coprocessor-register .ensures))
 
 returns-19 : tie.Need-returns-19
 unfolding effectOf
-returns-19 c = rw (c .before .before .enum-told19 .given .1) (with-bytes (c .supervisor-call .ensures))
+returns-19 c = rw (c .before .before .enum-told19 .given .1) (beside-is (c .supervisor-call .ensures))
 
 returns-20 : tie.Need-returns-20
 unfolding effectOf
-returns-20 c = rw (c .before .before .enum-told20 .given .1) (with-bytes (c .refuse10 .ensures))
+returns-20 c = rw (c .before .before .enum-told20 .given .1) (beside-is (c .refuse10 .ensures))
 
 returns-21 : tie.Need-returns-21
 unfolding effectOf
-returns-21 c = rw (c .before .before .enum-told21 .given .1) (with-bytes (c .branch-link-exchange .ensures))
+returns-21 c = rw (c .before .before .enum-told21 .given .1) (beside-is (c .branch-link-exchange .ensures))
 
 returns-22 : tie.Need-returns-22
 unfolding effectOf
-returns-22 c = rw (c .before .before .enum-told22 .given .1) (with-bytes (c .clear-exclusive .ensures))
+returns-22 c = rw (c .before .before .enum-told22 .given .1) (beside-is (c .clear-exclusive .ensures))
 
 returns-23 : tie.Need-returns-23
 unfolding effectOf
@@ -100,7 +100,7 @@ returns-23 c = rw (c .before .enum-told23 .given .1, c .move-status2 .ensures)
 
 returns-24 : tie.Need-returns-24
 unfolding effectOf
-returns-24 c = rw (c .before .before .enum-told24 .given .1) (with-bytes (c .finish .ensures))
+returns-24 c = rw (c .before .before .enum-told24 .given .1) (beside-is (c .finish .ensures))
 
 pub execute-cold-spec : {M : Type 1} → statement M
 execute-cold-spec =

@@ -18,7 +18,7 @@ use Rattle.cpu.specs.declared.Kind.the-variants.{Nothing, Exchange, Block}
 use Rattle.cpu.specs.declared.Machine.{Machine}
 use Rattle.cpu.specs.declared.Outcome.{Outcome}
 use Rattle.cpu.specs.Outcomes.{block, stops, exchange, doneOf, exchangedOf}
-use Rattle.cpu.specs.Laws.Sound.{Sound, sound-going, sound-stop}
+use Rattle.cpu.specs.Laws.Sound.{Sound, sound-going, sound-stop, sound-wait}
 use Rattle.banks.specs.Banks.{userRegOf}
 use Rattle.transfer.specs.Transfers.{guardedOf, beside}
 use Rattle.block.specs.declared.Plan.{Plan}
@@ -90,7 +90,7 @@ module _ (regs l : List ℕ) where
       record { leaves = inr (inr (inr (record { at = a; is = refl }))); sound = sound-stop (Bus a) refl; registers = refl; bytes = refl }
 
   keeps-waiting : Keeps regs l (block, regs, l)
-  keeps-waiting = record { leaves = inr (inr (inl refl)); sound = sound-going refl (lit≤ tt); registers = refl; bytes = refl }
+  keeps-waiting = record { leaves = inr (inr (inl refl)); sound = sound-wait; registers = refl; bytes = refl }
 
 module _ (regs : List ℕ) (op : ℕ) (l : List ℕ) where
   keeps : Keeps regs l (blockOf regs op l)

@@ -2,7 +2,7 @@ use mathlib.Core.Path.{sym, _∙_}
 use borrow.Author.Needs.{needs}
 use Rattle.memory.specs.Laws.Plans.{told-inside}
 use Rattle.exclusive.specs.Exclusive.{ldrexOf}
-use Rattle.exclusive.specs.Laws.Guards.{one-inside, one-outside, beside-of}
+use Rattle.transfer.specs.Laws.Guards.{guard-open, guard-shut, beside-is}
 use Rattle.exclusive.proofs.load_one.Statement.{statement}
 use Rattle.exclusive.proofs.load_one.Tie as tie
 
@@ -16,7 +16,7 @@ returns c =
     let w = t .before .before in
     let a = w .before .before .before .args in
     rw (c .stop-with .ensures, ← w .size-width .ensures .0)
-    (sym (one-outside (a .regs .now) (a .mem .now) _ _ _ _ (t .before .reaches-out .ensures) (t .if1 .taken)))
+    (sym (guard-shut _ _ _ (a .regs .now) (a .mem .now) _ (sym (t .before .reaches-out .ensures) ∙ t .if1 .taken)))
 
 returns-2 : tie.Need-returns-2
 unfolding ldrexOf
@@ -25,7 +25,7 @@ returns-2 c =
     let w = t .before .before in
     let a = w .before .before .before .args in
     rw (← w .size-width .ensures .0, ← c .before .before .load .ensures)
-    (beside-of _ (c .give-tagged .ensures) ∙ sym (one-inside (a .regs .now) (a .mem .now) _ _ _ _ (t .before .reaches-out .ensures) (t .if1 .left)))
+    (beside-is (c .give-tagged .ensures) ∙ sym (guard-open _ _ _ (a .regs .now) (a .mem .now) _ (sym (t .before .reaches-out .ensures) ∙ t .if1 .left)))
 
 pub load-one-spec : {M : Type 1} → statement M
 load-one-spec =

@@ -4,7 +4,7 @@ use borrow.Author.Tests.{ne-eqb}
 use Rattle.bits.specs.Cases.{if_then_else_}
 use Rattle.memory.specs.Laws.Plans.{inside-two}
 use Rattle.exclusive.specs.Exclusive.{ldrexdOf}
-use Rattle.exclusive.specs.Laws.Guards.{guarded-inside, guarded-outside, beside-of}
+use Rattle.transfer.specs.Laws.Guards.{guarded-inside, guarded-outside, beside-is}
 use Rattle.exclusive.proofs.load_pair.Statement.{statement}
 use Rattle.exclusive.proofs.load_pair.Tie as tie
 
@@ -18,7 +18,7 @@ read32-requires-2 c κs =
 
 returns : tie.Need-returns
 unfolding ldrexdOf if_then_else_
-returns c = rw (c .before .before .if1 .taken) (beside-of _ (c .refuse .ensures))
+returns c = rw (c .before .before .if1 .taken) (beside-is (c .refuse .ensures))
 
 returns-2 : tie.Need-returns-2
 unfolding ldrexdOf if_then_else_
@@ -29,7 +29,7 @@ returns-2 c =
     let i = f .before .before in
     let a = i .before .before .args in
     rw (ne-eqb _ _ (i .if1 .left), ← s .before .wrapping-add .ensures, ← s .read322 .ensures, ← s .before .before .read32 .ensures)
-    (beside-of _ (c .give-tagged .ensures) ∙ sym (guarded-inside (a .regs .now) (a .mem .now) _ _ (sym (f .find-outside .ensures) ∙ t .enum-told .given .1)))
+    (beside-is (c .give-tagged .ensures) ∙ sym (guarded-inside (a .regs .now) (a .mem .now) _ _ (sym (f .find-outside .ensures) ∙ t .enum-told .given .1)))
 
 returns-3 : tie.Need-returns-3
 unfolding ldrexdOf if_then_else_

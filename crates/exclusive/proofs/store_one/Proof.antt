@@ -3,7 +3,7 @@ use borrow.Author.Needs.{needs}
 use Rattle.bits.specs.Cases.{if_then_else_}
 use Rattle.memory.specs.Laws.Plans.{told-inside}
 use Rattle.exclusive.specs.Exclusive.{strexOf}
-use Rattle.exclusive.specs.Laws.Guards.{one-inside, one-outside, beside-of}
+use Rattle.transfer.specs.Laws.Guards.{guard-open, guard-shut, beside-is}
 use Rattle.exclusive.proofs.store_one.Statement.{statement}
 use Rattle.exclusive.proofs.store_one.Tie as tie
 
@@ -19,7 +19,7 @@ returns c =
     let w = t .before .before in
     let a = w .before .before .before .before .args in
     rw (w .before .if1 .taken, c .stop-with .ensures, ← w .size-width .ensures .0)
-    (sym (one-outside (a .regs .now) (a .mem .now) _ _ _ _ (t .before .reaches-out .ensures) (t .if2 .taken)))
+    (sym (guard-shut _ _ _ (a .regs .now) (a .mem .now) _ (sym (t .before .reaches-out .ensures) ∙ t .if2 .taken)))
 
 returns-2 : tie.Need-returns-2
 unfolding strexOf if_then_else_
@@ -29,11 +29,11 @@ returns-2 c =
     let w = t .before .before in
     let a = w .before .before .before .before .args in
     rw (w .before .if1 .taken, ← w .size-width .ensures .0, s .store .ensures)
-    (beside-of _ (c .succeed .ensures) ∙ sym (one-inside (a .regs .now) (a .mem .now) _ _ _ _ (t .before .reaches-out .ensures) (t .if2 .left)))
+    (beside-is (c .succeed .ensures) ∙ sym (guard-open _ _ _ (a .regs .now) (a .mem .now) _ (sym (t .before .reaches-out .ensures) ∙ t .if2 .left)))
 
 returns-3 : tie.Need-returns-3
 unfolding strexOf if_then_else_
-returns-3 c = rw (c .before .before .if1 .left) (beside-of _ (c .fail .ensures))
+returns-3 c = rw (c .before .before .if1 .left) (beside-is (c .fail .ensures))
 
 pub store-one-spec : {M : Type 1} → statement M
 store-one-spec =

@@ -5,7 +5,7 @@ use Rattle.bits.specs.Cases.{if_then_else_}
 use Rattle.memory.specs.Laws.Bytes.{length-word}
 use Rattle.memory.specs.Laws.Plans.{inside-two}
 use Rattle.exclusive.specs.Exclusive.{strexdOf}
-use Rattle.exclusive.specs.Laws.Guards.{guarded-inside, guarded-outside, beside-of}
+use Rattle.transfer.specs.Laws.Guards.{guarded-inside, guarded-outside, beside-is}
 use Rattle.exclusive.proofs.store_pair.Statement.{statement}
 use Rattle.exclusive.proofs.store_pair.Tie as tie
 
@@ -20,7 +20,7 @@ write32-requires-2 c κs =
 
 returns : tie.Need-returns
 unfolding strexdOf if_then_else_
-returns c = rw (c .before .before .if1 .taken) (beside-of _ (c .refuse .ensures))
+returns c = rw (c .before .before .if1 .taken) (beside-is (c .refuse .ensures))
 
 returns-2 : tie.Need-returns-2
 unfolding strexdOf if_then_else_
@@ -33,7 +33,7 @@ returns-2 c =
     let i = f .before .before .before in
     let a = i .before .before .args in
     rw (ne-eqb _ _ (i .if1 .left), f .before .if2 .taken, s .write322 .ensures, p .wrapping-add .ensures, v .write32 .ensures)
-    (beside-of _ (c .succeed .ensures) ∙ sym (guarded-inside (a .regs .now) (a .mem .now) _ _ (sym (f .find-outside .ensures) ∙ t .enum-told .given .1)))
+    (beside-is (c .succeed .ensures) ∙ sym (guarded-inside (a .regs .now) (a .mem .now) _ _ (sym (f .find-outside .ensures) ∙ t .enum-told .given .1)))
 
 returns-3 : tie.Need-returns-3
 unfolding strexdOf if_then_else_
@@ -49,7 +49,7 @@ returns-4 : tie.Need-returns-4
 unfolding strexdOf if_then_else_
 returns-4 c =
     let t = c .before .before in
-    rw (ne-eqb _ _ (t .before .before .if1 .left), t .if2 .left) (beside-of _ (c .fail .ensures))
+    rw (ne-eqb _ _ (t .before .before .if1 .left), t .if2 .left) (beside-is (c .fail .ensures))
 
 pub store-pair-spec : {M : Type 1} → statement M
 store-pair-spec =

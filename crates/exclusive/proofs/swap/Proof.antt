@@ -2,7 +2,7 @@ use mathlib.Core.Path.{sym, _∙_}
 use borrow.Author.Needs.{needs}
 use Rattle.memory.specs.Laws.Plans.{told-inside}
 use Rattle.exclusive.specs.Exclusive.{swapOf}
-use Rattle.exclusive.specs.Laws.Guards.{one-inside, one-outside, beside-of}
+use Rattle.transfer.specs.Laws.Guards.{guard-open, guard-shut, beside-is}
 use Rattle.exclusive.proofs.swap.Statement.{statement}
 use Rattle.exclusive.proofs.swap.Tie as tie
 
@@ -20,7 +20,7 @@ returns c =
     let t = c .before in
     let a = t .before .before .before .before .before .args in
     rw (c .stop-with .ensures, ← t .before .before .swap-width .ensures .0)
-    (sym (one-outside (a .regs .now) (a .mem .now) _ _ _ _ (t .before .reaches-out .ensures) (t .if1 .taken)))
+    (sym (guard-shut _ _ _ (a .regs .now) (a .mem .now) _ (sym (t .before .reaches-out .ensures) ∙ t .if1 .taken)))
 
 returns-2 : tie.Need-returns-2
 unfolding swapOf
@@ -29,7 +29,7 @@ returns-2 c =
     let t = s .before .before .before .before .before in
     let a = t .before .before .before .before .before .args in
     rw (← t .before .before .swap-width .ensures .0, s .store .ensures, ← s .before .before .before .load .ensures)
-    (beside-of _ (c .land .ensures) ∙ sym (one-inside (a .regs .now) (a .mem .now) _ _ _ _ (t .before .reaches-out .ensures) (t .if1 .left)))
+    (beside-is (c .land .ensures) ∙ sym (guard-open _ _ _ (a .regs .now) (a .mem .now) _ (sym (t .before .reaches-out .ensures) ∙ t .if1 .left)))
 
 pub swap-spec : {M : Type 1} → statement M
 swap-spec =

@@ -6,7 +6,7 @@ use mathlib.Core.Logic.{_⊎_, inl, inr, ⊎-elim}
 use Prim.Native.Nat.{ℕ}
 use native.Mathlib.Omega.{arith}
 use lib.ListN.{length, set, length-set}
-use Rattle.bits.specs.Cases.{if_then_else_, if-no}
+use Rattle.bits.specs.Cases.{if_then_else_, if-no, if-both}
 use Rattle.bits.specs.Fields.{_⟨_⟩}
 use Rattle.memory.specs.declared.Found.{Found}
 use Rattle.memory.specs.Bytes.{Width}
@@ -18,13 +18,7 @@ use Rattle.cpu.specs.declared.Outcome.{Outcome}
 use Rattle.cpu.specs.Outcomes.{nothing, undefinedOf, landedOf}
 use Rattle.transfer.specs.Transfers.{guardedOf, beside}
 use Rattle.exclusive.specs.Exclusive.{swapWidthOf, swapOf, widthOf, ldrexOf, ldrexdOf, succeeds, failedOf, strexOf, strexdOf, exclusiveOf}
-use Rattle.exclusive.specs.Laws.Guards.{guarded-both}
-
--- belongs in bits: what holds of both values holds of the choice
-if-both : {A : Type 0} (P : A → Type 0) (t : Bool) {a b : A} → P a → P b → P (if t then a else b)
-unfolding if_then_else_
-if-both P true p q = p
-if-both P false p q = q
+use Rattle.transfer.specs.Laws.Guards.{guarded-both}
 
 -- belongs in cpu: a register written leaves nothing to do, and keeps the number of registers
 landed-nothing : (regs : List ℕ) (rd value : ℕ) → landedOf regs rd value .0 ≡ nothing

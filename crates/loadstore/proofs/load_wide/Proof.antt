@@ -1,7 +1,7 @@
 use mathlib.Core.Path.{sym, _∙_}
 use borrow.Author.Needs.{needs}
 use Rattle.memory.specs.Laws.Plans.{reached}
-use Rattle.loadstore.specs.Laws.Guards.{guard-shut, guard-open, beside-is}
+use Rattle.transfer.specs.Laws.Guards.{guard-shut, guard-open, beside-is}
 use Rattle.loadstore.proofs.load_wide.Statement.{statement}
 use Rattle.loadstore.proofs.load_wide.Tie as tie
 

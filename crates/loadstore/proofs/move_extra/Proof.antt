@@ -2,7 +2,7 @@ use borrow.Author.Needs.{needs}
 use borrow.Author.Tests.{ne-eqb}
 use Rattle.bits.specs.Cases.{if_then_else_, cases}
 use Rattle.loadstore.specs.Extra.{extraAt}
-use Rattle.loadstore.specs.Laws.Guards.{beside-is}
+use Rattle.transfer.specs.Laws.Guards.{beside-is}
 use Rattle.loadstore.proofs.move_extra.Statement.{statement}
 use Rattle.loadstore.proofs.move_extra.Tie as tie
 

@@ -3,7 +3,7 @@ use borrow.Author.Needs.{needs}
 use borrow.Author.Tests.{eq-eqb, ne-eqb}
 use Rattle.memory.specs.Laws.Plans.{reached}
 use Rattle.bits.specs.Cases.{if-yes, if-no}
-use Rattle.loadstore.specs.Laws.Guards.{guard-shut, guard-open, beside-is}
+use Rattle.transfer.specs.Laws.Guards.{guard-shut, guard-open, beside-is}
 use Rattle.loadstore.specs.Single.{singleAt}
 use Rattle.loadstore.proofs.move_single.Statement.{statement}
 use Rattle.loadstore.proofs.move_single.Tie as tie

@@ -1,7 +1,7 @@
 use mathlib.Core.Path.{sym, _∙_}
 use borrow.Author.Needs.{needs}
 use Rattle.memory.specs.Laws.Plans.{reached}
-use Rattle.loadstore.specs.Laws.Guards.{guard-shut, guard-open}
+use Rattle.transfer.specs.Laws.Guards.{guard-shut, guard-open}
 use Rattle.loadstore.proofs.store_half.Statement.{statement}
 use Rattle.loadstore.proofs.store_half.Tie as tie
 

@@ -1,5 +1,5 @@
 use borrow.Author.Needs.{needs}
-use Rattle.loadstore.specs.Laws.Guards.{beside-is}
+use Rattle.transfer.specs.Laws.Guards.{beside-is}
 use Rattle.loadstore.proofs.store_one.Statement.{statement}
 use Rattle.loadstore.proofs.store_one.Tie as tie
 

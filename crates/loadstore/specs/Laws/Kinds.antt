@@ -8,7 +8,7 @@ use native.Mathlib.Omega.{arith}
 use lib.ListN.{length, getD, set, length-set}
 use lib.Seq.{getD-set-same, getD-set-other}
 use borrow.Author.Tests.{ne-eqb}
-use Rattle.bits.specs.Cases.{if_then_else_}
+use Rattle.bits.specs.Cases.{if_then_else_, if-both}
 use Rattle.memory.specs.Bytes.{Width, wordAt, putWord, writtenOf}
 use Rattle.memory.specs.Laws.Bytes.{Bytes, length-written, bytes-written, length-word, bytes-word}
 use Rattle.memory.specs.declared.Found.{Found}
@@ -20,12 +20,6 @@ use Rattle.cpu.specs.Outcomes.{doneOf, landedOf, exchangedOf}
 use Rattle.transfer.specs.Transfers.{guardedOf, beside, basedOf}
 use Rattle.loadstore.specs.Single.{widthOf, rdOf, takenOf, loadOf, storeOf, singleAt, singleOf}
 use Rattle.loadstore.specs.Extra.{nextOf, extraLoadOf, extraLoadsOf, strhOf, ldrdOf, strdOf, extraAt, extraOf}
-
--- belongs in bits: what holds of both values holds of the one chosen
-pub if-both : {A : Type 0} (P : A → Type 0) (t : Bool) {a b : A} → P a → P b → P (if t then a else b)
-unfolding if_then_else_
-if-both P true p q = p
-if-both P false p q = q
 
 pub record Refused (regs l : List ℕ) (x : Outcome × List ℕ × List ℕ) : Type 0 where
   pub stop : x .0 .kind ≡ Stop

@@ -6,7 +6,7 @@ use mathlib.Core.Logic.{inl, inr, ⊎-elim}
 use Prim.Native.Nat.{ℕ}
 use native.Mathlib.Omega.{arith}
 use lib.ListN.{getD}
-use Rattle.bits.specs.Cases.{if_then_else_, if-yes}
+use Rattle.bits.specs.Cases.{if_then_else_, if-yes, if-both}
 use Rattle.bits.specs.Fields.{_⟨_⟩}
 use Rattle.memory.specs.Bytes.{putWord}
 use Rattle.memory.specs.Laws.Bytes.{Clear, byte-untouched, byte-word}
@@ -16,7 +16,7 @@ use Rattle.cpu.specs.declared.Outcome.{Outcome}
 use Rattle.transfer.specs.Transfers.{guardedOf, movedOf, addressOf}
 use Rattle.loadstore.specs.Single.{offsetOf, widthOf, rdOf, singleAt, singleOf}
 use Rattle.loadstore.specs.Extra.{nextOf, extraOffsetOf, extraLoadOf, extraLoadsOf, strhOf, ldrdOf, strdOf, extraAt, extraOf}
-use Rattle.loadstore.specs.Laws.Kinds.{if-both, width-is}
+use Rattle.loadstore.specs.Laws.Kinds.{width-is}
 
 -- the address of the first access
 abbrev pub singleAddressOf : List ℕ → ℕ → Bool → ℕ

@@ -6,7 +6,7 @@ use mathlib.Core.Logic.{_⊎_, inl, inr}
 use Prim.Native.Nat.{ℕ, _≤_}
 use native.Mathlib.Omega.{arith}
 use lib.ListN.{length, set, length-set}
-use Rattle.bits.specs.Cases.{if_then_else_}
+use Rattle.bits.specs.Cases.{if_then_else_, if-both}
 use Rattle.bits.specs.Fields.{bitOf}
 use Rattle.lanes.specs.declared.Variant.{Variant}
 use Rattle.lanes.specs.declared.Operation.{Operation}
@@ -18,12 +18,6 @@ use Rattle.cpu.specs.declared.Kind.the-variants as kind
 use Rattle.cpu.specs.declared.Outcome.{Outcome}
 use Rattle.cpu.specs.Outcomes.{sticky, advanced, putOf, undefinedOf}
 use Rattle.media.specs.Media.{combinedOf, parallelFamilyOf, packedOf, saturateOf, saturate16Of, extendFamilyOf, reversalOf, packingOf, dualWordOf, mostWordOf, dualMultiplyOf, usadOf, mediaOf}
-
--- belongs in bits: what holds of both values holds of the choice
-if-both : {A : Type 0} (P : A → Type 0) (t : Bool) {a b : A} → P a → P b → P (if t then a else b)
-unfolding if_then_else_
-if-both P true p q = p
-if-both P false p q = q
 
 bit-small : (b : Bool) → bitOf b ≤ 1
 bit-small true = omega arith

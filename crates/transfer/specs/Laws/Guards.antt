@@ -1,9 +1,8 @@
--- The guard of a transfer as the code tests it.
-use mathlib.Core.Path.{_≡_, sym, ap, _∙_}
-use mathlib.Core.Bool.{Bool, true, false}
+-- The guard of a transfer as the code tests it, and memory beside a family that leaves it alone.
+use mathlib.Core.Path.{_≡_, ap}
+use mathlib.Core.Bool.{true, false}
 use mathlib.Core.List.{List}
 use Prim.Native.Nat.{ℕ}
-use lib.ListN.{length}
 use Rattle.bits.specs.Cases.{if_then_else_}
 use Rattle.memory.specs.Plans.{reachesOut, outsideOf}
 use Rattle.memory.specs.declared.Found.{Found}
@@ -12,9 +11,9 @@ use Rattle.memory.specs.Laws.Plans.{out-one}
 use Rattle.cpu.specs.declared.Outcome.{Outcome}
 use Rattle.cpu.specs.declared.Answer.the-variants.{Bus}
 use Rattle.cpu.specs.Outcomes.{stops}
 use Rattle.transfer.specs.Transfers.{guardedOf, beside}
 
--- all of this belongs in transfer: what holds of every answer 7, and of what the transfer does, holds of the guarded transfer
+-- what holds of every answer 7, and of what the transfer does, holds of the guarded transfer
 pub guarded-both : (P : Outcome × List ℕ × List ℕ → Type 0) (f : Found) (regs l : List ℕ) {done : Outcome × List ℕ × List ℕ}
     → ((address : ℕ) → P (stops (Bus address), regs, l)) → P done → P (guardedOf f regs l done)
 unfolding guardedOf
@@ -30,16 +29,17 @@ module _ (regs l : List ℕ) (done : Outcome × List ℕ × List ℕ) (f : Found
   unfolding guardedOf
   guarded-outside address e = rw e
 
--- one access, by its test r
-module _ (regs l : List ℕ) (done : Outcome × List ℕ × List ℕ) (at width : ℕ) (r : Bool) (e : r ≡ reachesOut (length l) at width) where
-  pub one-inside : r ≡ false → guardedOf (outsideOf (length l) at width 1) regs l done ≡ done
-  unfolding if_then_else_
-  one-inside h = guarded-inside regs l done _ (out-one (length l) at width ∙ rw (sym e ∙ h))
+-- one access
+module _ (len at width : ℕ) (regs l : List ℕ) (done : Outcome × List ℕ × List ℕ) where
+  pub guard-shut : reachesOut len at width ≡ true → guardedOf (outsideOf len at width 1) regs l done ≡ (stops (Bus at), regs, l)
+  unfolding guardedOf if_then_else_
+  guard-shut e = rw (out-one len at width, e)
 
-  pub one-outside : r ≡ true → guardedOf (outsideOf (length l) at width 1) regs l done ≡ (stops (Bus at), regs, l)
-  unfolding if_then_else_
-  one-outside h = guarded-outside regs l done _ at (out-one (length l) at width ∙ rw (sym e ∙ h))
+  pub guard-open : reachesOut len at width ≡ false → guardedOf (outsideOf len at width 1) regs l done ≡ done
+  unfolding guardedOf if_then_else_
+  guard-open e = rw (out-one len at width, e)
 
 -- what a family did to the registers, with memory beside it
-pub beside-of : {r : Outcome} {g : List ℕ} {x : Outcome × List ℕ} (l : List ℕ) → _≡_ {A = Outcome × List ℕ} (r, g) x → _≡_ {A = Outcome × List ℕ × List ℕ} (r, g, l) (beside x l)
-beside-of l e = ap (λ (y : Outcome × List ℕ). beside y l) e
+pub beside-is : {x : Outcome × List ℕ} {r : Outcome} {g l : List ℕ} → _≡_ {A = Outcome × List ℕ} (r, g) x
+    → _≡_ {A = Outcome × List ℕ × List ℕ} (r, g, l) (beside x l)
+beside-is {l = l} e = ap (λ (y : Outcome × List ℕ). beside y l) e
