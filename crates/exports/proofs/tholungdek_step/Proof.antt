@@ -1,0 +1,41 @@
+use mathlib.Core.Path.{sym, _∙_}
+use borrow.Author.Needs.{needs}
+use Rattle.exports.specs.Steps.{stepCallOf}
+use Rattle.exports.specs.Laws.Measured.{both-fit, answer-unfit, bytes-unfit, step-beside}
+use Rattle.exports.proofs.tholungdek_step.Statement.{statement}
+use Rattle.exports.proofs.tholungdek_step.Tie as tie
+
+returns : tie.Need-returns
+unfolding stepCallOf
+returns c =
+    let S = c .before .before .before .before .before .before .before .before .before in
+    let T = S .before .before .before .before in
+    let a = T .before .before .before .before .before .args in
+    step-beside (a .bytes .now) (c .before .before .before .before .leave-step .ensures) (rw (S .before .before .read-state .ensures) at (S .step .ensures))
+    ∙ sym (both-fit 12 (a .bytes .now) (a .memory .now) (a .answer .now) _ (T .before .if1 .taken) (T .if2 .taken))
+
+returns-2 : tie.Need-returns-2
+unfolding stepCallOf
+returns-2 c =
+    let a = c .before .before .before .before .before .args in
+    sym (answer-unfit 12 (a .bytes .now) (a .memory .now) (a .answer .now) _ (c .before .if1 .taken) (c .if2 .left))
+
+returns-3 : tie.Need-returns-3
+unfolding stepCallOf
+returns-3 c =
+    let a = c .before .before .before .before .args in
+    sym (bytes-unfit 12 (a .bytes .now) (a .memory .now) (a .answer .now) _ (c .if1 .left))
+
+pub tholungdek-step-spec : {M : Type 1} → statement M
+tholungdek-step-spec =
+    tie.close
+    (tie.spec
+    (λ c κs. search needs)
+    (λ c κs. search needs)
+    (λ c κs. search needs)
+    (λ c. search needs)
+    (λ c. search needs)
+    (λ c. search needs)
+    returns
+    returns-2
+    returns-3)
