@@ -3,3 +3,5 @@ pub mod Gate
 pub mod Fetch
 pub mod Going
 pub mod AsBefore
+pub mod Fits
+pub mod Kept
