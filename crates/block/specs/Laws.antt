@@ -4,3 +4,4 @@ pub mod Loops
 pub mod Sources
 pub mod Ways
 pub mod Kinds
+pub mod Stores

@@ -41,11 +41,11 @@ half = (omega arith, omega arith, λ e. omega arith)
 word : Width 4
 word = (omega arith, omega arith, λ e. omega arith)
 
-swap-width : (op : ℕ) → Width (swapWidthOf op)
+pub swap-width : (op : ℕ) → Width (swapWidthOf op)
 unfolding swapWidthOf
 swap-width op = if-both Width _ byte word
 
-size-width : (op : ℕ) → Width (widthOf op)
+pub size-width : (op : ℕ) → Width (widthOf op)
 unfolding widthOf
 size-width op = if-both Width _ byte (if-both Width _ half word)
 

@@ -10,10 +10,9 @@ use Rattle.bits.specs.Cases.{if_then_else_, if-yes, if-both}
 use Rattle.bits.specs.Fields.{_⟨_⟩}
 use Rattle.memory.specs.Bytes.{putWord}
 use Rattle.memory.specs.Laws.Bytes.{Clear, byte-untouched, byte-word}
-use Rattle.memory.specs.declared.Found.{Found}
-use Rattle.memory.specs.declared.Found.the-variants.{Inside, Outside}
 use Rattle.cpu.specs.declared.Outcome.{Outcome}
-use Rattle.transfer.specs.Transfers.{guardedOf, movedOf, addressOf}
+use Rattle.transfer.specs.Transfers.{movedOf, addressOf}
+use Rattle.transfer.specs.Laws.Guards.{guarded-both}
 use Rattle.loadstore.specs.Single.{offsetOf, widthOf, rdOf, singleAt, singleOf}
 use Rattle.loadstore.specs.Extra.{nextOf, extraOffsetOf, extraLoadOf, extraLoadsOf, strhOf, ldrdOf, strdOf, extraAt, extraOf}
 use Rattle.loadstore.specs.Laws.Kinds.{width-is}
@@ -24,12 +23,6 @@ singleAddressOf regs op c = addressOf regs op (movedOf regs op (offsetOf regs op
 
 abbrev pub extraAddressOf : List ℕ → ℕ → ℕ
 extraAddressOf regs op = addressOf regs op (movedOf regs op (extraOffsetOf regs op))
-
--- belongs in transfer: what holds where registers and memory are as they came, and of what a transfer does, holds of the guarded one
-guarded-both : (P : Outcome × List ℕ × List ℕ → Type 0) (f : Found) (regs l : List ℕ) {done : Outcome × List ℕ × List ℕ} → ((o : Outcome) → P (o, regs, l)) → P done → P (guardedOf f regs l done)
-unfolding guardedOf
-guarded-both P Inside regs l p q = q
-guarded-both P (Outside a) regs l p q = p _
 
 -- memory is what it was; and byte b alone is
 abbrev Kept : List ℕ → Outcome × List ℕ × List ℕ → Type 0
@@ -42,26 +35,26 @@ module _ (regs : List ℕ) (op : ℕ) (l : List ℕ) (moved address : ℕ) where
   same-single : (b : ℕ) → Clear address (widthOf op) b → Same l b (singleAt regs op l moved address)
   unfolding singleAt
   same-single b h =
-      guarded-both (Same l b) _ regs l (λ o. refl)
+      guarded-both (Same l b) _ regs l (λ a. refl)
       (if-both (Same l b) _ refl (byte-untouched l address (widthOf op) _ (width-is op) b h))
 
   kept-single : op ⟨ 20 ⟩ ≡ true → singleAt regs op l moved address .2 ≡ l
   unfolding singleAt if_then_else_
-  kept-single e = guarded-both (Kept l) _ regs l (λ o. refl) (rw e)
+  kept-single e = guarded-both (Kept l) _ regs l (λ a. refl) (rw e)
 
   load-untouched : (width value : ℕ) → extraLoadOf regs op l moved address width value .2 ≡ l
-  load-untouched width value = guarded-both (Kept l) _ regs l (λ o. refl) refl
+  load-untouched width value = guarded-both (Kept l) _ regs l (λ a. refl) refl
 
   pub ldrd-untouched : ldrdOf regs op l moved address .2 ≡ l
-  ldrd-untouched = guarded-both (Kept l) _ regs l (λ o. refl) refl
+  ldrd-untouched = guarded-both (Kept l) _ regs l (λ a. refl) refl
 
   pub strh-untouched : (b : ℕ) → Clear address 2 b → getD (strhOf regs op l moved address .2) b 0 ≡ getD l b 0
   strh-untouched b h =
-      guarded-both (Same l b) _ regs l (λ o. refl) (byte-untouched l address 2 _ (omega arith, omega arith, λ e. omega arith) b h)
+      guarded-both (Same l b) _ regs l (λ a. refl) (byte-untouched l address 2 _ (omega arith, omega arith, λ e. omega arith) b h)
 
   pub strd-untouched : (b : ℕ) → Clear address 4 b → Clear (nextOf address) 4 b → getD (strdOf regs op l moved address .2) b 0 ≡ getD l b 0
   strd-untouched b h k =
-      guarded-both (Same l b) _ regs l (λ o. refl)
+      guarded-both (Same l b) _ regs l (λ a. refl)
       (byte-word (putWord l address (getD regs (rdOf op) 0)) (nextOf address) _ b k ∙ byte-word l address _ b h)
 
   pub loads-untouched : extraLoadsOf regs op l moved address .2 ≡ l

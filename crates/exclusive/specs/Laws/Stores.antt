@@ -1,0 +1,40 @@
+-- A finished swap or store exclusive changes only bytes of its plan.
+use mathlib.Core.Path.{_≡_, refl, _∙_}
+use mathlib.Core.Bool.{Bool}
+use mathlib.Core.List.{List}
+use mathlib.Core.Logic.{inl, inr, ⊎-elim}
+use Prim.Native.Nat.{ℕ}
+use native.Mathlib.Omega.{arith}
+use lib.ListN.{getD}
+use Rattle.bits.specs.Cases.{if-both}
+use Rattle.memory.specs.Bytes.{putWord}
+use Rattle.memory.specs.Laws.Bytes.{Clear, byte-untouched, byte-word}
+use Rattle.cpu.specs.declared.Outcome.{Outcome}
+use Rattle.transfer.specs.Transfers.{baseOf}
+use Rattle.transfer.specs.Laws.Guards.{guarded-both}
+use Rattle.exclusive.specs.Exclusive.{sourceOf, swapWidthOf, swapOf, widthOf, secondOf, ldrexOf, ldrexdOf, strexOf, strexdOf, exclusiveOf}
+use Rattle.exclusive.specs.Laws.Kinds.{swap-width, size-width}
+
+abbrev Same : List ℕ → ℕ → Outcome × List ℕ × List ℕ → Type 0
+Same l b x = getD (x .2) b 0 ≡ getD l b 0
+
+module _ (regs : List ℕ) (op : ℕ) (l : List ℕ) (b : ℕ) where
+  pub swap-untouched : Clear (baseOf regs op) (swapWidthOf op) b → getD (swapOf regs op l .2) b 0 ≡ getD l b 0
+  unfolding swapOf
+  swap-untouched h = guarded-both (Same l b) _ regs l (λ a. refl) (byte-untouched l (baseOf regs op) (swapWidthOf op) _ (swap-width op) b h)
+
+  pub strex-untouched : (present : Bool) (tag : ℕ) → Clear (baseOf regs op) (widthOf op) b → getD (strexOf regs op present tag l .2) b 0 ≡ getD l b 0
+  unfolding strexOf
+  strex-untouched present tag h =
+      if-both (Same l b) _
+      (guarded-both (Same l b) _ regs l (λ a. refl) (byte-untouched l (baseOf regs op) (widthOf op) _ (size-width op) b h))
+      refl
+
+  pub strexd-untouched : (present : Bool) (tag : ℕ) → Clear (baseOf regs op) 4 b → Clear (secondOf regs op) 4 b → getD (strexdOf regs op present tag l .2) b 0 ≡ getD l b 0
+  unfolding strexdOf
+  strexd-untouched present tag h k =
+      if-both (Same l b) _ refl
+      (if-both (Same l b) _
+      (guarded-both (Same l b) _ regs l (λ a. refl)
+      (byte-word (putWord l (baseOf regs op) (sourceOf regs op)) (secondOf regs op) _ b k ∙ byte-word l (baseOf regs op) _ b h))
+      refl)
