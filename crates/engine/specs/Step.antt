@@ -1,5 +1,5 @@
 -- A step (document 01, sections 1 and 2): the gate, the fetch, the instruction, and what its outcome changes in the machine.
-use mathlib.Core.Bool.{Bool, true, false, not, _&&_}
+use mathlib.Core.Bool.{Bool, true, not, _&&_}
 use mathlib.Core.List.{List}
 use Prim.Native.Nat.{ℕ, _%_}
 use lib.ListN.{length, getD, set}

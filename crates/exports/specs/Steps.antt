@@ -1,5 +1,5 @@
 -- What the exported steps and runs leave in the bytes lent: the machine's, memory's, the answer's.
-use mathlib.Core.Bool.{Bool, true, false, _&&_, _||_}
+use mathlib.Core.Bool.{Bool, _&&_, _||_}
 use mathlib.Core.List.{List}
 use Prim.Native.Nat.{ℕ}
 use lib.ListN.{length}

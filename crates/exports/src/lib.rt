@@ -1,6 +1,5 @@
 // The functions that a host in C or Rust links: the public calls on numbers, and on a machine and memory as lent bytes.
 ghost use mathlib.Core.Path.{_≡_};
-ghost use Prim.Native.Nat.{ℕ};
 ghost use lib.ListN.{length};
 ghost use Rattle.exports.specs.Steps.{writtenState, leftByStep, leftByRun, stepCallOf, stepOpcodeCallOf, runCallOf};
 ghost use Rattle.exports.specs.Calls.{halves, packCallOf, unpackCallOf, shiftImmediateCallOf, shiftRegisterCallOf};

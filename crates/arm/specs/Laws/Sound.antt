@@ -1,8 +1,8 @@
 -- Every family is sound: where it stops, the registers and bytes are as they came.
-use mathlib.Core.Path.{_≡_, refl, ap}
-use mathlib.Core.Bool.{Bool, true, false}
+use mathlib.Core.Path.{refl, ap}
+use mathlib.Core.Bool.{Bool}
 use mathlib.Core.List.{List}
-use mathlib.Core.Logic.{_⊎_, inl, inr}
+use mathlib.Core.Logic.{inl, inr}
 use Prim.Native.Nat.{ℕ, _+_, _%_, _^_}
 use lib.Dec.{lit≤}
 use lib.ListN.{set}

@@ -1,8 +1,8 @@
 -- A finished block transfer changes only bytes of its plan, and a load none.
-use mathlib.Core.Path.{_≡_, refl, sym, _∙_}
+use mathlib.Core.Path.{_≡_, refl}
 use mathlib.Core.List.{List}
 use Prim.Native.Nat.{ℕ, _<_}
-use lib.ListN.{length, getD}
+use lib.ListN.{getD}
 use Rattle.bits.specs.Cases.{if-both}
 use Rattle.memory.specs.Plans.{accessesOf, storedOf}
 use Rattle.memory.specs.Laws.Bytes.{Clear}
@@ -13,7 +13,6 @@ use Rattle.cpu.specs.declared.Machine.{Machine}
 use Rattle.cpu.specs.declared.Outcome.{Outcome}
 use Rattle.transfer.specs.Laws.Guards.{guarded-both}
 use Rattle.block.specs.declared.Plan.{Plan}
-use Rattle.block.specs.declared.Blocked.{Blocked}
 use Rattle.block.specs.Block.{planOf, countOf, storedListOf, storeOf, loadOf, blockOf}
 use Rattle.block.specs.UserBlock.{userStoreOf, userMovedOf, userGuardedOf, userBlockOf}
 

@@ -1,9 +1,9 @@
 -- A step that answers neither 0 nor 1 leaves the machine and every byte as they were.
 use mathlib.Core.Path.{_≡_, refl, sym, ap, _∙_}
-use mathlib.Core.Bool.{Bool, true, false, not, _||_, false≢true}
+use mathlib.Core.Bool.{true, false, false≢true}
 use mathlib.Core.List.{List}
 use Prim.Native.Nat.{ℕ, _+_, _%_, _^_}
-use lib.ListN.{getD, set}
+use lib.ListN.{set}
 use lib.Seq.{set-set, set-getD}
 use Rattle.bits.specs.Cases.{if_then_else_, if-both}
 use Rattle.memory.specs.declared.Found.{Found}
@@ -15,7 +15,7 @@ use Rattle.cpu.specs.declared.Kind.the-variants as kind
 use Rattle.cpu.specs.declared.Outcome.{Outcome}
 use Rattle.cpu.specs.Answers.{refuses}
 use Rattle.cpu.specs.With.{withRegs}
-use Rattle.cpu.specs.Laws.Sound.{Sound, keeps}
+use Rattle.cpu.specs.Laws.Sound.{keeps}
 use Rattle.block.specs.UserBlock.{userGuardedOf, userBlockOf}
 use Rattle.arm.specs.Turn.{seen}
 use Rattle.arm.specs.Laws.Sound.{sound-turn}

@@ -1,5 +1,5 @@
 -- Where an instruction can be fetched, its four bytes lie inside.
-use mathlib.Core.Path.{_≡_, refl, sym}
+use mathlib.Core.Path.{_≡_, refl}
 use mathlib.Core.Bool.{Bool, true, false, not, _&&_, false≢true}
 use mathlib.Core.List.{List}
 use Prim.Native.Nat.{ℕ, _+_, _%_, _≤_}

@@ -1,14 +1,12 @@
 -- GE stays within four bits in all seven status records, through bank switches, returns and moves of status words.
-use mathlib.Core.Path.{_≡_, refl, sym, ap, _∙_, subst}
-use mathlib.Core.Bool.{Bool, true, false, not, _&&_, _||_, false≢true}
+use mathlib.Core.Path.{_≡_, refl, sym}
+use mathlib.Core.Bool.{Bool, true, false, not, _||_, false≢true}
 use mathlib.Core.List.{List, [], _∷_}
-use Prim.Native.Nat.{ℕ, zero, suc, _≤_, _<_, _%_, _^_}
+use Prim.Native.Nat.{ℕ, zero, suc, _≤_, _<_}
 use native.Mathlib.Omega.{arith}
 use lib.ListN.{getD, set}
-use lib.Dec.{ltb, lit≤}
 use borrow.Author.Tests.{le-ltb, ltb-false}
 use Rattle.bits.specs.Cases.{if_then_else_, if-both}
-use Rattle.bits.specs.Fields.{_⟨_⟩, _⟨_‥_⟩}
 use Rattle.psr.specs.declared.Status.{Status}
 use Rattle.psr.specs.declared.Mode.{Mode}
 use Rattle.psr.specs.declared.Mode.the-variants.{User, Fiq, Irq, Supervisor, Abort, Undefined, System}

@@ -6,7 +6,6 @@ use Prim.Native.Nat.{ℕ}
 use lib.ListN.{length}
 use Rattle.bits.specs.Cases.{if_then_else_, _<?_}
 use Rattle.cpu.specs.declared.Machine.{Machine}
-use Rattle.cpu.specs.declared.Answer.{Answer}
 use Rattle.cpu.specs.declared.Answer.the-variants.{BadState, TooLong}
 use Rattle.cpu.specs.Answers.{badOf}
 use Rattle.engine.specs.declared.Gate.{Gate}

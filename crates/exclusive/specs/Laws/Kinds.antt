@@ -1,12 +1,12 @@
 -- What swaps and exclusives leave for the machine to do; where they stop, all is as it was; a failed store keeps bytes and tag; lengths are kept.
 use mathlib.Core.Path.{_≡_, refl, _∙_}
-use mathlib.Core.Bool.{Bool, true, false}
+use mathlib.Core.Bool.{Bool, false}
 use mathlib.Core.List.{List}
 use mathlib.Core.Logic.{_⊎_, inl, inr, ⊎-elim}
 use Prim.Native.Nat.{ℕ}
 use native.Mathlib.Omega.{arith}
 use lib.ListN.{length, set, length-set}
-use Rattle.bits.specs.Cases.{if_then_else_, if-no, if-both}
+use Rattle.bits.specs.Cases.{if-no, if-both}
 use Rattle.bits.specs.Fields.{_⟨_⟩}
 use Rattle.memory.specs.declared.Found.{Found}
 use Rattle.memory.specs.Bytes.{Width}

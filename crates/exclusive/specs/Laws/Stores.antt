@@ -2,9 +2,7 @@
 use mathlib.Core.Path.{_≡_, refl, _∙_}
 use mathlib.Core.Bool.{Bool}
 use mathlib.Core.List.{List}
-use mathlib.Core.Logic.{inl, inr, ⊎-elim}
 use Prim.Native.Nat.{ℕ}
-use native.Mathlib.Omega.{arith}
 use lib.ListN.{getD}
 use Rattle.bits.specs.Cases.{if-both}
 use Rattle.memory.specs.Bytes.{putWord}
@@ -12,7 +10,7 @@ use Rattle.memory.specs.Laws.Bytes.{Clear, byte-untouched, byte-word}
 use Rattle.cpu.specs.declared.Outcome.{Outcome}
 use Rattle.transfer.specs.Transfers.{baseOf}
 use Rattle.transfer.specs.Laws.Guards.{guarded-both}
-use Rattle.exclusive.specs.Exclusive.{sourceOf, swapWidthOf, swapOf, widthOf, secondOf, ldrexOf, ldrexdOf, strexOf, strexdOf, exclusiveOf}
+use Rattle.exclusive.specs.Exclusive.{sourceOf, swapWidthOf, swapOf, widthOf, secondOf, strexOf, strexdOf}
 use Rattle.exclusive.specs.Laws.Kinds.{swap-width, size-width}
 
 abbrev Same : List ℕ → ℕ → Outcome × List ℕ × List ℕ → Type 0
