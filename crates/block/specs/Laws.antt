@@ -3,5 +3,4 @@ pub mod Lists
 pub mod Loops
 pub mod Sources
 pub mod Ways
-pub mod Kinds
 pub mod Stores

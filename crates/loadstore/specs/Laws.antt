@@ -1,4 +1,4 @@
 -- Laws that proofs cite; nothing here has to be believed.
 pub mod Loads
-pub mod Kinds
+pub mod Base
 pub mod Stores

@@ -13,7 +13,7 @@ use Rattle.decode.specs.Families.{familyOf}
 use Rattle.cpu.specs.declared.Answer.the-variants.{Undefined, Breakpoint, Coprocessor, Bus, TransferForm}
 use Rattle.cpu.specs.declared.Outcome.{Outcome}
 use Rattle.cpu.specs.Outcomes.{ownOf, landedOf, exchangedOf}
-use Rattle.cpu.specs.Laws.Sound.{Sound, keeps, sound-on, sound-going, sound-stop, sound-sticky}
+use Rattle.cpu.specs.Laws.Sound.{Sound, keeps, sound-on, sound-going, sound-stop, sound-wait, sound-sticky}
 use Rattle.transfer.specs.Transfers.{beside, guardedOf}
 use Rattle.transfer.specs.Laws.Guards.{guarded-both}
 use Rattle.memory.specs.declared.Found.{Found}
@@ -26,7 +26,7 @@ use Rattle.misc.specs.Stops.{swiOf, bkptOf, coprocessorOf, coprocessorMoveOf, c
 use Rattle.loadstore.specs.Single.{takenOf, singleAt, singleOf}
 use Rattle.loadstore.specs.Extra.{extraLoadsOf, extraAt, extraOf}
 use Rattle.exclusive.specs.Exclusive.{swapOf, ldrexOf, ldrexdOf, strexOf, strexdOf, exclusiveOf}
-use Rattle.block.specs.Laws.Kinds.{block-sound}
+use Rattle.block.specs.Block.{storeOf, continuedOf, loadOf, blockOf}
 use Rattle.arm.specs.Turn.{Seen, isTagged, tagAddress, effectOf, turnOf}
 
 module _ (regs l : List ℕ) where
@@ -108,6 +108,12 @@ module _ (regs l : List ℕ) where
       (if-both (Sound regs l) _ (sound-stop (Undefined (ownOf regs) op) refl)
       (if-both (Sound regs l) _ (guarded _ (landed _ _ _ l)) (guarded _ (sound-going refl (lit≤ tt)))))))
 
+  sound-block : (op : ℕ) → Sound regs l (blockOf regs op l)
+  unfolding blockOf storeOf loadOf continuedOf
+  sound-block op =
+      if-both (Sound regs l) _ sound-wait
+      (guarded _ (if-both (Sound regs l) _ (if-both Alone _ (exchanged _ _) (sound-going refl (lit≤ tt))) (sound-going refl (lit≤ tt))))
+
   sound-swap : (op : ℕ) → Sound regs l (swapOf regs op l)
   unfolding swapOf
   sound-swap op = guarded _ (landed regs _ _ _)
@@ -138,7 +144,7 @@ sound-effect family.BranchLinkExchange regs op s l = sound-going refl (lit≤ tt
 sound-effect family.CountZeros regs op s l = sound-going refl (lit≤ tt)
 sound-effect family.Single regs op s l = sound-single regs l op (s .c)
 sound-effect family.Extra regs op s l = sound-extra regs l op
-sound-effect family.Block regs op s l = block-sound regs op l
+sound-effect family.Block regs op s l = sound-block regs l op
 sound-effect family.Swap regs op s l = sound-swap regs l op
 sound-effect family.Exclusive regs op s l = sound-exclusive regs l op (isTagged (s .tag)) (tagAddress (s .tag))
 sound-effect family.ClearExclusive regs op s l = sound-going refl (lit≤ tt)

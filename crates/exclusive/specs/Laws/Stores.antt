@@ -3,15 +3,32 @@ use mathlib.Core.Path.{_≡_, refl, _∙_}
 use mathlib.Core.Bool.{Bool}
 use mathlib.Core.List.{List}
 use Prim.Native.Nat.{ℕ}
+use native.Mathlib.Omega.{arith}
 use lib.ListN.{getD}
 use Rattle.bits.specs.Cases.{if-both}
-use Rattle.memory.specs.Bytes.{putWord}
+use Rattle.memory.specs.Bytes.{Width, putWord}
 use Rattle.memory.specs.Laws.Bytes.{Clear, byte-untouched, byte-word}
 use Rattle.cpu.specs.declared.Outcome.{Outcome}
 use Rattle.transfer.specs.Transfers.{baseOf}
 use Rattle.transfer.specs.Laws.Guards.{guarded-both}
 use Rattle.exclusive.specs.Exclusive.{sourceOf, swapWidthOf, swapOf, widthOf, secondOf, strexOf, strexdOf}
-use Rattle.exclusive.specs.Laws.Kinds.{swap-width, size-width}
+
+byte : Width 1
+byte = (omega arith, omega arith, λ e. omega arith)
+
+half : Width 2
+half = (omega arith, omega arith, λ e. omega arith)
+
+word : Width 4
+word = (omega arith, omega arith, λ e. omega arith)
+
+swap-width : (op : ℕ) → Width (swapWidthOf op)
+unfolding swapWidthOf
+swap-width op = if-both Width _ byte word
+
+size-width : (op : ℕ) → Width (widthOf op)
+unfolding widthOf
+size-width op = if-both Width _ byte (if-both Width _ half word)
 
 abbrev Same : List ℕ → ℕ → Outcome × List ℕ × List ℕ → Type 0
 Same l b x = getD (x .2) b 0 ≡ getD l b 0

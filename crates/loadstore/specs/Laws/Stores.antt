@@ -8,14 +8,13 @@ use native.Mathlib.Omega.{arith}
 use lib.ListN.{getD}
 use Rattle.bits.specs.Cases.{if_then_else_, if-yes, if-both}
 use Rattle.bits.specs.Fields.{_⟨_⟩}
-use Rattle.memory.specs.Bytes.{putWord}
+use Rattle.memory.specs.Bytes.{Width, putWord}
 use Rattle.memory.specs.Laws.Bytes.{Clear, byte-untouched, byte-word}
 use Rattle.cpu.specs.declared.Outcome.{Outcome}
 use Rattle.transfer.specs.Transfers.{movedOf, addressOf}
 use Rattle.transfer.specs.Laws.Guards.{guarded-both}
 use Rattle.loadstore.specs.Single.{offsetOf, widthOf, rdOf, singleAt, singleOf}
 use Rattle.loadstore.specs.Extra.{nextOf, extraOffsetOf, extraLoadOf, extraLoadsOf, strhOf, ldrdOf, strdOf, extraAt, extraOf}
-use Rattle.loadstore.specs.Laws.Kinds.{width-is}
 
 -- the address of the first access
 abbrev pub singleAddressOf : List ℕ → ℕ → Bool → ℕ
@@ -23,6 +22,10 @@ singleAddressOf regs op c = addressOf regs op (movedOf regs op (offsetOf regs op
 
 abbrev pub extraAddressOf : List ℕ → ℕ → ℕ
 extraAddressOf regs op = addressOf regs op (movedOf regs op (extraOffsetOf regs op))
+
+width-is : (op : ℕ) → Width (widthOf op)
+unfolding widthOf
+width-is op = if-both Width _ (omega arith, omega arith, λ e. omega arith) (omega arith, omega arith, λ e. omega arith)
 
 -- memory is what it was; and byte b alone is
 abbrev Kept : List ℕ → Outcome × List ℕ × List ℕ → Type 0
