@@ -5,3 +5,4 @@ pub mod Going
 pub mod AsBefore
 pub mod Fits
 pub mod Kept
+pub mod Sticky

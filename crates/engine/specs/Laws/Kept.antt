@@ -1,6 +1,6 @@
--- What every step keeps: GE within four bits in all seven records, and Q where no status word is moved or restored.
-use mathlib.Core.Path.{_≡_, refl, sym}
-use mathlib.Core.Bool.{Bool, true, false, false≢true}
+-- What every step keeps: GE within four bits in all seven records.
+use mathlib.Core.Path.{_≡_, refl}
+use mathlib.Core.Bool.{false}
 use mathlib.Core.List.{List, [], _∷_}
 use Prim.Native.Nat.{ℕ, _≤_}
 use lib.ListN.{getD, drop}
@@ -93,35 +93,3 @@ module _ (m : Machine) (l : List ℕ) where
   given-ge-kept op e =
       let f = good-fits m e in
       fits-good _ (gated-fit _ f (if-both StepFits _ f (executed-fit op f)))
-
--- the outcomes that move or restore a status word: MSR and its kin, S into r15, LDM with S
-abbrev pub touchesStatus : Kind → Bool
-touchesStatus kind.Nothing = false
-touchesStatus kind.Flags = false
-touchesStatus kind.Sticky = false
-touchesStatus kind.Lanes = false
-touchesStatus kind.Exchange = false
-touchesStatus kind.Tagged = false
-touchesStatus kind.Untagged = false
-touchesStatus kind.Return = true
-touchesStatus kind.Moves = true
-touchesStatus kind.Block = true
-touchesStatus kind.Call = false
-touchesStatus kind.Stop = false
-
--- every other outcome leaves a Q that is set
-pub q-kept : (k : Kind) (m : Machine) (at op : ℕ) (o : Outcome) (l : List ℕ) → touchesStatus k ≡ false → m .cpsr .q ≡ true
-    → settledOf k m at op o l .0 .machine .cpsr .q ≡ true
-unfolding settledOf
-q-kept kind.Nothing m at op o l t q = q
-q-kept kind.Flags m at op o l t q = q
-q-kept kind.Sticky m at op o l t q = refl
-q-kept kind.Lanes m at op o l t q = q
-q-kept kind.Exchange m at op o l t q = q
-q-kept kind.Tagged m at op o l t q = q
-q-kept kind.Untagged m at op o l t q = q
-q-kept kind.Return m at op o l t q = absurd (false≢true (sym t))
-q-kept kind.Moves m at op o l t q = absurd (false≢true (sym t))
-q-kept kind.Block m at op o l t q = absurd (false≢true (sym t))
-q-kept kind.Call m at op o l t q = q
-q-kept kind.Stop m at op o l t q = q
