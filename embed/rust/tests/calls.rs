@@ -224,6 +224,51 @@ fn the_other_refusals_have_their_values() {
     assert!(!undefined.changes() && !coprocessor.changes());
 }
 
+/// The table of answers in docs/HANDBOOK.md, each image run for at most ten steps in 65,536 bytes.
+#[test]
+fn the_handbook_s_examples_answer_as_it_says() {
+    let examples: [(&[u32], Answer, u32); 8] = [
+        (&[SWI_7], Answer::Supervisor { number: 7 }, 1),
+        (
+            &[UNDEFINED],
+            Answer::Undefined {
+                address: 0,
+                opcode: UNDEFINED,
+            },
+            0,
+        ),
+        (
+            &[0xE120_0070],
+            Answer::Breakpoint {
+                address: 0,
+                number: 0,
+            },
+            0,
+        ),
+        (
+            &[0xEE07_0F90],
+            Answer::Coprocessor {
+                opcode: 0xEE07_0F90,
+            },
+            0,
+        ),
+        (&[0xE3A0_0001, 0xE12F_FF10], Answer::Thumb, 2),
+        (&[0xE3A0_F802], Answer::Fetch { address: 0x20000 }, 1),
+        (
+            &[0xE3A0_1802, 0xE591_0000],
+            Answer::Bus { address: 0x20000 },
+            1,
+        ),
+        (&[B_SELF], Answer::Timeout, 10),
+    ];
+    for (words, answer, count) in examples {
+        let mut memory = image(words);
+        memory.resize(MEMORY_LIMIT, 0);
+        let finished = Machine::new().run(&mut memory, 10);
+        assert_eq!(finished, Finished { answer, count }, "{words:08X?}");
+    }
+}
+
 #[test]
 fn a_run_counts_the_steps_that_changed_something() {
     let words = [MOV_R0_5, SUBS_R1_R0_7, SBC_R2_R0_1, SWI_7];
