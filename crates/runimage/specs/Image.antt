@@ -1,7 +1,7 @@
 -- The program runimage (document 01, section 8): where a run starts, and the numbers that are shown of it.
 use mathlib.Core.Path.{_≡_}
 use mathlib.Core.Bool.{false, _||_}
-use mathlib.Core.List.{List, [], _∷_}
+use mathlib.Core.List.{List}
 use Prim.Native.Nat.{ℕ}
 use lib.ListN.{replicate}
 use Rattle.bits.specs.Cases.{if_then_else_, _==_}

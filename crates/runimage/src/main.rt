@@ -1,8 +1,8 @@
 // Runs the image on standard input and prints what came of it (document 01, section 8).
-mod digits;
 mod input;
 mod page;
 mod print;
+mod text;
 
 fn main() {
     // one byte more than memory may have, so that a longer image is seen to be too long
@@ -12,6 +12,6 @@ fn main() {
     if loaded.failed {
         os::fail(b"runimage: standard input");
     } else {
-        print::page(page::run_image(&mut room[..n]));
+        print::print_page(page::run_image(&mut room[..n]));
     }
 }

@@ -1,6 +1,6 @@
 // What is shown of a run: the initial machine, and the numbers of the page.
 ghost use mathlib.Core.Path.{_≡_};
-ghost use Rattle.runimage.specs.Image.{defaultStatus, initialOf, shownOf, shownFrom, pageOf, Shows};
+ghost use Rattle.runimage.specs.Image.{defaultStatus, initialOf, shownFrom, pageOf, Shows};
 use cpu::Machine;
 use cpu::Report;
 use cpu::Tag;

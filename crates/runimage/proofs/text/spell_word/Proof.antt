@@ -1,14 +1,14 @@
 use borrow.Author.Needs.{needs}
-use Rattle.runimage.specs.Digits.{hexOf}
-use Rattle.runimage.proofs.digits.hex.Statement.{statement}
-use Rattle.runimage.proofs.digits.hex.Tie as tie
+use Rattle.runimage.specs.Text.{spacedOf}
+use Rattle.runimage.proofs.text.spell_word.Statement.{statement}
+use Rattle.runimage.proofs.text.spell_word.Tie as tie
 
 returns : tie.Need-returns
-unfolding hexOf
+unfolding spacedOf
 returns c = cc
 
-pub hex-spec : {M : Type 1} → statement M
-hex-spec =
+pub spell-word-spec : {M : Type 1} → statement M
+spell-word-spec =
     tie.close
     (tie.spec
     (λ c κs. search needs)

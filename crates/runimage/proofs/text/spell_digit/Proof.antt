@@ -1,12 +1,12 @@
 use borrow.Author.Needs.{needs}
 use Rattle.bits.specs.Cases.{cases}
-use Rattle.runimage.specs.Digits.{glyphOf}
-use Rattle.runimage.proofs.digits.glyph.Statement.{statement}
-use Rattle.runimage.proofs.digits.glyph.Tie as tie
+use Rattle.runimage.specs.Text.{glyphOf}
+use Rattle.runimage.proofs.text.spell_digit.Statement.{statement}
+use Rattle.runimage.proofs.text.spell_digit.Tie as tie
 
-pub glyph-spec : {M : Type 1} → statement M
+pub spell-digit-spec : {M : Type 1} → statement M
 unfolding glyphOf
-glyph-spec =
+spell-digit-spec =
     tie.close
     (tie.spec
     (λ c. search needs)

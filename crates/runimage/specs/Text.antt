@@ -1,16 +1,17 @@
--- A word as text: eight hexadecimal digits with capital letters, the highest first.
+-- A word as the page shows it, in ASCII: a space (32) and eight hexadecimal digits with capital letters, the highest first.
 use mathlib.Core.List.{List, [], _∷_}
 use Prim.Native.Nat.{ℕ, _+_}
 use Rattle.bits.specs.Cases.{if_then_else_, _<?_}
 use Rattle.bits.specs.Fields.{_⟨_‥_⟩}
 
--- ASCII: 48 is 0, and 65 is A
+-- 48 is 0, and 65 is A
 unfoldable pub glyphOf : ℕ → ℕ
 glyphOf d = if d <? 10 then 48 + d else 55 + d
 
-unfoldable pub hexOf : ℕ → List ℕ
-hexOf x =
-    glyphOf (x ⟨ 31 ‥ 28 ⟩)
+unfoldable pub spacedOf : ℕ → List ℕ
+spacedOf x =
+    32
+    ∷ glyphOf (x ⟨ 31 ‥ 28 ⟩)
     ∷ glyphOf (x ⟨ 27 ‥ 24 ⟩)
     ∷ glyphOf (x ⟨ 23 ‥ 20 ⟩)
     ∷ glyphOf (x ⟨ 19 ‥ 16 ⟩)
