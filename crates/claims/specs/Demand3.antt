@@ -1,6 +1,6 @@
 -- Demand 3 (document 01, sections 4 and 7): SUBS and then SBCS subtract numbers of n words, ADDS and then ADCS add them, over steps of the machine.
 use mathlib.Core.Path.{_≡_}
-use mathlib.Core.Bool.{Bool, true, not, _&&_, _||_}
+use mathlib.Core.Bool.{true, not, _&&_, _||_}
 use mathlib.Core.List.{List, [], _∷_}
 use Prim.Native.Nat.{ℕ, _+_, _%_, _^_, _<_}
 use lib.ListN.{getD, set}
@@ -45,9 +45,9 @@ pub data Took (s : State) (op : ℕ) (answer : Answer) (t : State) : Type 0 wher
       → Took s op answer t
 
 -- any number of steps, whatever they answer
-pub data Steps* : State → State → Type 0 where
-  none : {s : State} → Steps* s s
-  more : {s t u : State} {op : ℕ} {answer : Answer} → Took s op answer t → Steps* t u → Steps* s u
+pub data Between : State → State → Type 0 where
+  none : {s : State} → Between s s
+  more : {s t u : State} {op : ℕ} {answer : Answer} → Took s op answer t → Between t u → Between s u
 
 -- bits 24-21 (A3.4, Table A3-2)
 abbrev pub SUB : ℕ
@@ -69,10 +69,10 @@ pub record Encodes (k op : ℕ) : Type 0 where
   pub operation : op ⟨ 24 ‥ 21 ⟩ ≡ k
   pub sets : op ⟨ 20 ⟩ ≡ true
   pub destination : op ⟨ 15 ‥ 12 ⟩ < 15
-  -- an immediate, or a register shifted: there bits 7 and 4 are not both set
+  -- an immediate, or a shifted register, where bits 7 and 4 are not both set
   pub form : (op ⟨ 25 ⟩ || not (op ⟨ 7 ⟩ && op ⟨ 4 ⟩)) ≡ true
 
--- the registers while it executes: r15 is A + 8
+-- the registers while it executes: r15 is A + 8, which firstOf and operandOf read as A + 12 where a register holds the shift amount
 abbrev pub readsOf : State → List ℕ
 readsOf s = set (s .machine .regs) 15 ((addressOf s + 8) % 2 ^ 32)
 
@@ -101,7 +101,7 @@ pub data Chain (next : ℕ) : ℕ → State → Pair → List Pair → List ℕ 
   -- between a link and the next any steps that leave C as the link left it
   goes : {k : ℕ} {s u u′ t : State} {p q : Pair} {ps : List Pair} {w : ℕ} {ws : List ℕ}
       → Link k s p w u
-      → Steps* u u′
+      → Between u u′
       → view .c u′ ≡ view .c u
       → Chain next next u′ q ps ws t
       → Chain next k s p (q ∷ ps) (w ∷ ws) t

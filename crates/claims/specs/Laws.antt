@@ -4,3 +4,4 @@ pub mod Family
 pub mod Finished
 pub mod Link
 pub mod Demand3
+pub mod P13

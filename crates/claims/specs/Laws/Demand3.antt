@@ -1,15 +1,16 @@
 -- Demand 3 holds: a chain on the machine is a chain of links in the sense of alu/specs/Chains.antt.
-use mathlib.Core.Path.{_≡_, sym, subst}
+use mathlib.Core.Path.{_≡_, sym, _∙_, subst}
 use mathlib.Core.Bool.{Bool, true, false}
 use mathlib.Core.List.{List, [], _∷_}
-use Prim.Native.Nat.{ℕ}
+use Prim.Native.Nat.{ℕ, _≤_}
+use borrow.Author.Tests.{leb-true, le-leb}
 use Rattle.alu.specs.declared.Sum.{Sum}
 use Rattle.alu.specs.Sums.{sbcOf, adcOf}
-use Rattle.alu.specs.Numbers.{Pair, Words}
+use Rattle.alu.specs.Numbers.{Pair, Words, A, B}
 use Rattle.alu.specs.Chains as chains
 use Rattle.alu.specs.Chains.{Links}
 use Rattle.alu.specs.Laws.Chains.{subtracted, added}
-use Rattle.claims.specs.Demand3.{State, view, SUB, ADD, ADC, SBC, Chain, ends, goes, Demand3}
+use Rattle.claims.specs.Demand3.{State, view, SUB, ADC, SBC, Chain, ends, goes, Demand3}
 use Rattle.claims.specs.Laws.Link.{Makes, subs-make, sbcs-make, adds-make, adcs-make}
 
 -- the links of a chain, and that its operands are words
@@ -40,3 +41,11 @@ demand-3 =
       differences = λ h. let c = chained sbcOf SBC sbcs-make true (subs-make _) h in subtracted view (c .links) (c .words);
       sums = λ h. let c = chained adcOf ADC adcs-make false (adds-make _) h in added view (c .links) (c .words);
     }
+
+-- of the differences in words: C is set exactly when A is not below B
+module _ {s t : State} {p : Pair} {ps : List Pair} {ws : List ℕ} (h : Chain SBC SUB s p ps ws t) where
+  pub set-not-below : view .c t ≡ true → B (p ∷ ps) ≤ A (p ∷ ps)
+  set-not-below e = leb-true _ _ (sym (demand-3 .differences h .carry) ∙ e)
+
+  pub not-below-set : B (p ∷ ps) ≤ A (p ∷ ps) → view .c t ≡ true
+  not-below-set l = demand-3 .differences h .carry ∙ le-leb _ _ l

@@ -1,12 +1,11 @@
 -- An opcode of a link is of the data-processing family.
-use mathlib.Core.Path.{_≡_, refl, sym, ap, _∙_}
-use mathlib.Core.Bool.{Bool, true, false, not, _&&_, _||_, false≢true}
+use mathlib.Core.Path.{_≡_, refl, ap, _∙_}
+use mathlib.Core.Bool.{Bool, true, false, not, _&&_, _||_}
 use Prim.Native.Nat.{ℕ, _+_, _*_, _/_, _%_, _^_}
 use native.Mathlib.Omega.{arith}
 use borrow.Author.Tests.{eqb-true, eqb-false, ne-eqb, eq-eqb, not-true}
-use Rattle.bits.specs.Cases.{if_then_else_, _==_, if-yes, if-no}
+use Rattle.bits.specs.Cases.{if_then_else_, _==_}
 use Rattle.bits.specs.Fields.{_⟨_⟩, _⟨_‥_⟩}
-use Rattle.decode.specs.declared.Family.{Family}
 use Rattle.decode.specs.declared.Family.the-variants.{DataProcessing}
 use Rattle.decode.specs.Families.{comparesNothing, registerSpaceOf, immediateSpaceOf, conditionalOf, familyOf}
 use Rattle.claims.specs.Demand3.{Encodes}

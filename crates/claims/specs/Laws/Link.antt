@@ -1,11 +1,11 @@
 -- What one link leaves: its word in Rd and its flags in CPSR.
-use mathlib.Core.Path.{_≡_, refl, sym, ap, _∙_, subst}
+use mathlib.Core.Path.{_≡_, sym, ap, _∙_, subst}
 use mathlib.Core.Bool.{Bool, true, false}
 use mathlib.Core.List.{List}
 use Prim.Native.Nat.{ℕ, _+_, _-_, _%_, _^_, _<_}
 use native.Mathlib.Omega.{arith}
 use native.Mathlib.Nat.{mod-lt}
-use lib.ListN.{length, getD, set, length-set}
+use lib.ListN.{getD, set, length-set}
 use lib.Pow.{pow-pos}
 use lib.Seq.{getD-set-same, getD-set-other}
 use Rattle.bits.specs.Cases.{if_then_else_}
@@ -24,7 +24,7 @@ use Rattle.arm.specs.Turn.{effectOf, turnOf}
 use Rattle.state.specs.Valid.{Fits}
 use Rattle.engine.specs.declared.Stepped.{Stepped}
 use Rattle.engine.specs.Step.{going, nextOf, turnedOf, settledOf, executedOf}
-use Rattle.claims.specs.Demand3.{State, view, readsOf, pairOf, resultIn, SUB, ADD, ADC, SBC, Encodes, Link}
+use Rattle.claims.specs.Demand3.{State, view, readsOf, resultIn, SUB, ADD, ADC, SBC, Link}
 use Rattle.claims.specs.Laws.Operands.{fits-set, first-lt, operand-lt}
 use Rattle.claims.specs.Laws.Family.{data-processing}
 use Rattle.claims.specs.Laws.Finished.{took-executed}
@@ -81,17 +81,20 @@ module _ {k : ℕ} {s : State} {p : Pair} {w : ℕ} {t : State} (i : Link k s p 
         ∙ getD-set-other written 15 rd ((getD written 15 0 + (2 ^ 32 - 4)) % 2 ^ 32) 0 not-r15
         ∙ getD-set-same regs rd (r .value) 0 (rw (length-set (m .regs) 15 ((nextOf m + 8) % 2 ^ 32), i .registers .size) (omega (arith, i .encoding .destination)))
 
-  -- a link whose instruction puts such a sum into Rd
+  -- from what dataproc/specs/Laws/Links.antt says of the operation
   linked : (f : ℕ → ℕ → Bool → Sum) (b : Bool)
-      → dataprocOf regs (i .op) (view .c s) (view .v s) ≡ linkedOf regs (i .op) (f (firstOf regs (i .op)) (operandOf regs (i .op) (view .c s) .value) b)
+      → (i .op ⟨ 24 ‥ 21 ⟩ ≡ k
+      → i .op ⟨ 20 ⟩ ≡ true
+      → (rd ≡ 15 → ⊥)
+      → dataprocOf regs (i .op) (view .c s) (view .v s) ≡ linkedOf regs (i .op) (f (firstOf regs (i .op)) (operandOf regs (i .op) (view .c s) .value) b))
       → Linked f b p w t
-  linked f b same =
-      let r : Sum = f (firstOf regs (i .op)) (operandOf regs (i .op) (view .c s) .value) b in
+  linked f b links =
+      let same = links (i .encoding .operation) (i .encoding .sets) not-r15 in
       let fits : Fits regs = fits-set (m .regs) 15 ((nextOf m + 8) % 2 ^ 32) (mod-lt (nextOf m + 8) (pow-pos 32)) (i .registers .fits) in
       subst (λ (q : Pair). Linked f b q w t) (sym (i .read))
       (record {
-        flags = left-flags r same;
-        wrote = i .wrote ∙ left-word r same;
+        flags = left-flags _ same;
+        wrote = i .wrote ∙ left-word _ same;
         first-word = first-lt regs fits (i .op);
         second-word = operand-lt regs fits (i .op) (view .c s);
       })
@@ -102,13 +105,13 @@ Makes f b k s = (p : Pair) (w : ℕ) (t : State) → Link k s p w t → Linked f
 
 module _ (s : State) where
   pub subs-make : Makes sbcOf true SUB s
-  subs-make p w t i = linked i sbcOf true (subs-links (readsOf s) (i .op) (view .c s) (view .v s) (i .encoding .operation) (i .encoding .sets) (not-r15 i))
+  subs-make p w t i = linked i sbcOf true (subs-links (readsOf s) (i .op) (view .c s) (view .v s))
 
   pub sbcs-make : Makes sbcOf (view .c s) SBC s
-  sbcs-make p w t i = linked i sbcOf (view .c s) (sbcs-links (readsOf s) (i .op) (view .c s) (view .v s) (i .encoding .operation) (i .encoding .sets) (not-r15 i))
+  sbcs-make p w t i = linked i sbcOf (view .c s) (sbcs-links (readsOf s) (i .op) (view .c s) (view .v s))
 
   pub adds-make : Makes adcOf false ADD s
-  adds-make p w t i = linked i adcOf false (adds-links (readsOf s) (i .op) (view .c s) (view .v s) (i .encoding .operation) (i .encoding .sets) (not-r15 i))
+  adds-make p w t i = linked i adcOf false (adds-links (readsOf s) (i .op) (view .c s) (view .v s))
 
   pub adcs-make : Makes adcOf (view .c s) ADC s
-  adcs-make p w t i = linked i adcOf (view .c s) (adcs-links (readsOf s) (i .op) (view .c s) (view .v s) (i .encoding .operation) (i .encoding .sets) (not-r15 i))
+  adcs-make p w t i = linked i adcOf (view .c s) (adcs-links (readsOf s) (i .op) (view .c s) (view .v s))

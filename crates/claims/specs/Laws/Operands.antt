@@ -1,16 +1,15 @@
 -- Both operands of a data-processing instruction are words where the registers are.
 use mathlib.Core.Bool.{Bool}
 use mathlib.Core.List.{List, [], _∷_}
-use Prim.Native.Nat.{ℕ, zero, suc, _+_, _*_, _/_, _%_, _^_, _<_}
+use Prim.Native.Nat.{ℕ, zero, suc, _+_, _*_, _%_, _^_, _<_}
 use native.Mathlib.Omega.{arith}
 use native.Mathlib.Nat.{mod-lt}
 use lib.Dec.{lit<}
 use lib.ListN.{getD, set}
 use lib.Pow.{pow-pos}
 use lib.Signed.{shrZ}
-use Rattle.bits.specs.Cases.{if_then_else_, if-both}
-use Rattle.bits.specs.Fields.{bitOf}
-use Rattle.bits.specs.Integers.{signed, wrap}
+use Rattle.bits.specs.Cases.{if-both}
+use Rattle.bits.specs.Integers.{signed}
 use Rattle.bits.specs.Laws.Wrap.{wrap-lt}
 use Rattle.bits.specs.Laws.Words.{rotated-lt}
 use Rattle.alu.specs.Laws.Sums.{bit-le}
