@@ -1,2 +1,4 @@
 pub mod Cases
 pub mod Unique
+pub mod Demand1
+pub mod Laws

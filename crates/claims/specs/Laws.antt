@@ -1,0 +1,9 @@
+-- Laws that the claims cite; nothing here has to be believed.
+pub mod Fields
+pub mod Families
+pub mod Encodings
+pub mod Composition
+pub mod Steps
+pub mod Lengths
+pub mod Runs
+pub mod Demand1
