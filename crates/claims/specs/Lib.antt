@@ -1,4 +1,5 @@
 pub mod Cases
 pub mod Unique
 pub mod Demand1
+pub mod WrongCores
 pub mod Laws
