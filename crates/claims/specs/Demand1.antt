@@ -54,7 +54,10 @@ InThumb m = m .cpsr .t ≡ true
 abbrev pub Unfetched : Machine → List ℕ → Type 0
 Unfetched m l = ¬ ((nextOf m % 4 ≡ 0) × (nextOf m + 4 ≤ length l))
 
--- ---- an instruction that is reached
+-- ---- an instruction that is reached: none of these holds
+
+abbrev pub Reached : Type 0 → Machine → List ℕ → Type 0
+Reached unfetched m l = (¬ TooLong l) × (¬ Bad m) × (¬ InThumb m) × (¬ unfetched)
 
 -- its condition, bits 31-28, on the flags; 14 and 15 always pass
 abbrev pub passes : Machine → ℕ → Bool
@@ -102,7 +105,7 @@ pub record Answers (m : Machine) (op : ℕ) (a : Answer) : Type 0 where
 pub record Answered (unfetched : Type 0) (op : ℕ) (m : Machine) (l : List ℕ) (x : Stepped × List ℕ) : Type 0 where
   pub number : among (numberOf (x .0 .answer)) (0 ∷ 1 ∷ 2 ∷ 3 ∷ 4 ∷ 5 ∷ 6 ∷ 7 ∷ 8 ∷ 9 ∷ 11 ∷ []) ≡ true
   pub order : InOrder (TooLong l) (Bad m) (InThumb m) unfetched (numberOf (x .0 .answer))
-  pub instruction : ¬ TooLong l → ¬ Bad m → ¬ InThumb m → ¬ unfetched → Answers m op (x .0 .answer)
+  pub instruction : Reached unfetched m l → Answers m op (x .0 .answer)
   -- any answer but 0 and 1 leaves every register, flag, bank, tag and byte
   pub machine : numberOf (x .0 .answer) ≢ 0 → numberOf (x .0 .answer) ≢ 1 → x .0 .machine ≡ m
   pub bytes : numberOf (x .0 .answer) ≢ 0 → numberOf (x .0 .answer) ≢ 1 → x .1 ≡ l

@@ -2,8 +2,10 @@
 pub mod Fields
 pub mod Families
 pub mod Encodings
+pub mod Decoding
 pub mod Composition
 pub mod Steps
 pub mod Lengths
 pub mod Runs
 pub mod Demand1
+pub mod Demand2

@@ -1,5 +1,6 @@
 pub mod Cases
 pub mod Unique
 pub mod Demand1
+pub mod Demand2
 pub mod WrongCores
 pub mod Laws

@@ -7,27 +7,15 @@ use lib.ListN.{set}
 use Rattle.bits.specs.Cases.{if-yes, if-no}
 use Rattle.decode.specs.Families.{familyOf}
 use Rattle.cpu.specs.declared.Machine.{Machine}
-use Rattle.cpu.specs.declared.Outcome.{Outcome}
 use Rattle.cpu.specs.Outcomes.{nothing}
 use Rattle.cpu.specs.With.{withRegs}
-use Rattle.arm.specs.Turn.{Seen, seen, effectOf, turnOf}
-use Rattle.engine.specs.declared.Stepped.{Stepped}
+use Rattle.arm.specs.Turn.{effectOf, turnOf}
 use Rattle.engine.specs.Step.{going, settledOf, nextOf, turnedOf, executedOf}
 use Rattle.claims.specs.Demand1.{passes}
+use Rattle.claims.specs.Demand2.{lent, seenOf, settled}
 
 module _ (m : Machine) (op : ℕ) (l : List ℕ) where
-  -- what a family did, settled in the machine
-  abbrev pub settle : Outcome × List ℕ × List ℕ → Stepped × List ℕ
-  settle x = settledOf (x .0 .kind) (withRegs m (x .1)) (nextOf m) op (x .0) (x .2)
-
-  -- the registers with r15 = A + 8, and what else is seen
-  abbrev pub lentRegs : List ℕ
-  lentRegs = set (m .regs) 15 ((nextOf m + 8) % 2 ^ 32)
-
-  abbrev pub seenOf : Seen
-  seenOf = seen (m .cpsr .c) (m .cpsr .v) (m .cpsr .ge) (m .tag)
-
-  turned-passed : passes m op ≡ true → turnedOf m op l ≡ effectOf (familyOf op) lentRegs op seenOf l
+  turned-passed : passes m op ≡ true → turnedOf m op l ≡ effectOf (familyOf op) (lent m) op (seenOf m) l
   unfolding turnOf
   turned-passed e = if-yes _ _ _ e
 
@@ -35,14 +23,14 @@ module _ (m : Machine) (op : ℕ) (l : List ℕ) where
   unfolding turnOf
   turned-failed e = if-no _ _ _ e
 
-  executed-is : executedOf m op l ≡ settle (turnedOf m op l)
+  executed-is : executedOf m op l ≡ settled m op (turnedOf m op l)
   unfolding executedOf
   executed-is = refl
 
-  pub executed-passed : passes m op ≡ true → executedOf m op l ≡ settle (effectOf (familyOf op) lentRegs op seenOf l)
-  executed-passed e = executed-is ∙ ap settle (turned-passed e)
+  pub executed-passed : passes m op ≡ true → executedOf m op l ≡ settled m op (effectOf (familyOf op) (lent m) op (seenOf m) l)
+  executed-passed e = executed-is ∙ ap (settled m op) (turned-passed e)
 
   pub executed-failed : passes m op ≡ false
       → executedOf m op l ≡ (going (withRegs m (set (m .regs) 15 ((nextOf m + 4) % 2 ^ 32))), l)
   unfolding settledOf
-  executed-failed e = executed-is ∙ ap settle (turned-failed e)
+  executed-failed e = executed-is ∙ ap (settled m op) (turned-failed e)

@@ -32,10 +32,11 @@ use Rattle.engine.specs.Step.{stepped, settledOf, blockedOf, nextOf, turnedOf, 
 use Rattle.engine.specs.Laws.Fits.{AllFit, good-fits, fits-good}
 use Rattle.engine.specs.Laws.Fetch.{fetches-inside}
 use Rattle.engine.specs.Laws.AsBefore.{AsBefore, step-as-before, given-as-before}
-use Rattle.claims.specs.Demand1.{numberOf, among, numbersOf, passes, IsSwi, InOrder, Answers, Answered, TooLong, Bad, InThumb, Unfetched, StepAnswered, GivenAnswered}
+use Rattle.claims.specs.Demand1.{numberOf, among, numbersOf, passes, IsSwi, InOrder, Answers, Answered, TooLong, Bad, InThumb, Unfetched, Reached, StepAnswered, GivenAnswered}
+use Rattle.claims.specs.Demand2.{lent, seenOf, settled}
 use Rattle.claims.specs.Laws.Families.{allows, told-effect}
 use Rattle.claims.specs.Laws.Encodings.{swi-is, swi-only}
-use Rattle.claims.specs.Laws.Composition.{settle, lentRegs, seenOf, executed-passed, executed-failed}
+use Rattle.claims.specs.Laws.Composition.{executed-passed, executed-failed}
 
 -- ---- an outcome settled answers a number that its kind allows
 
@@ -123,16 +124,16 @@ module _ (m : Machine) (op : ℕ) (l : List ℕ) where
 
   passed : passes m op ≡ true → among (numberOf answered) (numbersOf (familyOf op)) ≡ true
   passed e =
-      let x = effectOf (familyOf op) (lentRegs m op l) op (seenOf m op l) l in
+      let x = effectOf (familyOf op) (lent m) op (seenOf m) l in
       subst (λ (y : Stepped × List ℕ). among (numberOf (answerOf y)) (numbersOf (familyOf op)) ≡ true) (sym (executed-passed m op l e))
       (told-settled (x .0 .kind) (withRegs m (x .1)) (nextOf m) op (x .0) (x .2) (numbersOf (familyOf op))
-      (told-effect (familyOf op) (lentRegs m op l) op (seenOf m op l) l))
+      (told-effect (familyOf op) (lent m) op (seenOf m) l))
 
   called : passes m op ≡ true → IsSwi op → answered ≡ answer.Supervisor (op ⟨ 23 ‥ 0 ⟩)
   unfolding effectOf settledOf swiOf
   called e w =
       ap answerOf
-      (executed-passed m op l e ∙ ap (λ (f : Family). settle m op l (effectOf f (lentRegs m op l) op (seenOf m op l) l)) (swi-is op w))
+      (executed-passed m op l e ∙ ap (λ (f : Family). settled m op (effectOf f (lent m) op (seenOf m) l)) (swi-is op w))
 
   -- either way of the condition
   by-condition : (P : Type 0) → (passes m op ≡ false → P) → (passes m op ≡ true → P) → P
@@ -356,13 +357,13 @@ module _ (m : Machine) (l : List ℕ) where
   unfolding givenOf
   given-is op c = if-no _ _ _ (not-so (m .cpsr .t) c)
 
-  step-is : ¬ TooLong l → ¬ Bad m → ¬ InThumb m → ¬ Unfetched m l → stepOf m l ≡ executedOf m (wordAt l (nextOf m)) l
+  pub step-is : Reached (Unfetched m l) m l → stepOf m l ≡ executedOf m (wordAt l (nextOf m)) l
   unfolding stepOf
-  step-is a b c d = open-gate _ a b ∙ taken-is c d
+  step-is (a, b, c, d) = open-gate _ a b ∙ taken-is c d
 
-  step-with-is : (op : ℕ) → ¬ TooLong l → ¬ Bad m → ¬ InThumb m → stepWithOf m op l ≡ executedOf m op l
+  pub step-with-is : (op : ℕ) → Reached ⊥ m l → stepWithOf m op l ≡ executedOf m op l
   unfolding stepWithOf
-  step-with-is op a b c = open-gate _ a b ∙ given-is op c
+  step-with-is op (a, b, c, d) = open-gate _ a b ∙ given-is op c
 
   pub step-answered : StepAnswered m l (stepOf m l)
   unfolding stepOf takenOf gatedOf
@@ -372,7 +373,7 @@ module _ (m : Machine) (l : List ℕ) where
         number = step-numbered;
         order = in-order m l (executedOf m op l) (nextOf m) (65536 <? length l) (badOf m) (m .cpsr .t) (fetches l (nextOf m))
             (long-test l) (bad-test m) Iff·rfl (fetch-test m l) (own m op l);
-        instruction = λ a b c d. subst (λ (x : Stepped × List ℕ). Answers m op (x .0 .answer)) (sym (step-is a b c d)) (answers m op l);
+        instruction = λ r. subst (λ (x : Stepped × List ℕ). Answers m op (x .0 .answer)) (sym (step-is r)) (answers m op l);
         machine = kept-machine (step-as-before m l);
         bytes = kept-bytes (step-as-before m l);
       }
@@ -384,7 +385,7 @@ module _ (m : Machine) (l : List ℕ) where
         number = given-numbered op;
         order = in-order m l (executedOf m op l) 0 (65536 <? length l) (badOf m) (m .cpsr .t) true
             (long-test l) (bad-test m) Iff·rfl (neither (λ z. z) true≢false) (own m op l);
-        instruction = λ a b c _. subst (λ (x : Stepped × List ℕ). Answers m op (x .0 .answer)) (sym (step-with-is op a b c)) (answers m op l);
+        instruction = λ r. subst (λ (x : Stepped × List ℕ). Answers m op (x .0 .answer)) (sym (step-with-is op r)) (answers m op l);
         machine = kept-machine (given-as-before m l op);
         bytes = kept-bytes (given-as-before m l op);
       }
