@@ -6,7 +6,7 @@ use mathlib.Core.Logic.{_↔_, _≢_}
 use Prim.Native.Nat.{ℕ, zero, suc, _+_, _%_, _<_, _≤_}
 use lib.ListN.{length}
 use Rattle.bits.specs.Cases.{_==_}
-use Rattle.bits.specs.Fields.{_⟨_‥_⟩}
+use Rattle.bits.specs.Fields.{_⟨_⟩, _⟨_‥_⟩}
 use Rattle.psr.specs.Status.{passedOf}
 use Rattle.memory.specs.Bytes.{wordAt}
 use Rattle.decode.specs.declared.Family.{Family}
@@ -39,7 +39,7 @@ pub record InOrder (long bad thumb unfetched : Type 0) (n : ℕ) : Type 0 where
   pub eight : (n ≡ 8) ↔ ((¬ long) × bad)
   pub five : (n ≡ 5) ↔ ((¬ long) × (¬ bad) × thumb)
   pub six : (n ≡ 6) ↔ ((¬ long) × (¬ bad) × (¬ thumb) × unfetched)
-  pub others : (among n (0 ∷ 1 ∷ 2 ∷ 3 ∷ 4 ∷ 7 ∷ 11 ∷ []) ≡ true) ↔ ((¬ long) × (¬ bad) × (¬ thumb) × (¬ unfetched))
+  pub others : (among n (0 ∷ 1 ∷ 2 ∷ 3 ∷ 4 ∷ 7 ∷ []) ≡ true) ↔ ((¬ long) × (¬ bad) × (¬ thumb) × (¬ unfetched))
 
 -- more bytes than 65,536; a GE over 15 in one of the seven records; T set; A no multiple of 4, or A + 4 past the end
 abbrev pub TooLong : List ℕ → Type 0
@@ -63,7 +63,7 @@ Reached unfetched m l = (¬ TooLong l) × (¬ Bad m) × (¬ InThumb m) × (¬ un
 abbrev pub passes : Machine → ℕ → Bool
 passes m op = passedOf (op ⟨ 31 ‥ 28 ⟩) (m .cpsr .n) (m .cpsr .z) (m .cpsr .c) (m .cpsr .v)
 
--- the numbers that each family can answer
+-- the numbers that the definition of each family can answer
 abbrev pub numbersOf : Family → List ℕ
 numbersOf DataProcessing = 0 ∷ []
 numbersOf MultiplyShort = 0 ∷ []
@@ -94,16 +94,30 @@ numbersOf Preload = 0 ∷ []
 abbrev pub IsSwi : ℕ → Type 0
 IsSwi op = (op ⟨ 31 ‥ 28 ⟩ ≢ 15) × (op ⟨ 27 ‥ 24 ⟩ ≡ 15)
 
+-- BKPT: bits 27-23 are 00010, bit 20 is clear, bits 7-4 are 0111; bits 22-21 are not looked at (D4)
+abbrev pub IsBkpt : ℕ → Type 0
+IsBkpt op = (op ⟨ 31 ‥ 28 ⟩ ≢ 15) × (op ⟨ 27 ‥ 23 ⟩ ≡ 0b00010) × (op ⟨ 20 ⟩ ≡ false) × (op ⟨ 7 ‥ 4 ⟩ ≡ 0b0111)
+
+-- a coprocessor's: bits 27-26 are 11 and it is no SWI; a register move, with bits 25 and 4 set, only where its number is 10, 11 or 15
+abbrev pub IsCoprocessor : ℕ → Type 0
+IsCoprocessor op =
+    (op ⟨ 27 ‥ 26 ⟩ ≡ 0b11)
+    × (¬ IsSwi op)
+    × (op ⟨ 25 ⟩ ≡ true → op ⟨ 4 ⟩ ≡ true → among (op ⟨ 11 ‥ 8 ⟩) (10 ∷ 11 ∷ 15 ∷ []) ≡ true)
+
 pub record Answers (m : Machine) (op : ℕ) (a : Answer) : Type 0 where
   pub failed : passes m op ≡ false → numberOf a ≡ 0
   pub passed : passes m op ≡ true → among (numberOf a) (numbersOf (familyOf op)) ≡ true
   pub one : (numberOf a ≡ 1) ↔ ((passes m op ≡ true) × IsSwi op)
   pub one-value : numberOf a ≡ 1 → a ≡ answer.Supervisor (op ⟨ 23 ‥ 0 ⟩)
+  pub three : (numberOf a ≡ 3) ↔ ((passes m op ≡ true) × IsBkpt op)
+  pub four : (numberOf a ≡ 4) ↔ ((passes m op ≡ true) × IsCoprocessor op)
 
 -- ---- a step, whose opcode is op where it is reached
 
 pub record Answered (unfetched : Type 0) (op : ℕ) (m : Machine) (l : List ℕ) (x : Stepped × List ℕ) : Type 0 where
-  pub number : among (numberOf (x .0 .answer)) (0 ∷ 1 ∷ 2 ∷ 3 ∷ 4 ∷ 5 ∷ 6 ∷ 7 ∷ 8 ∷ 9 ∷ 11 ∷ []) ≡ true
+  -- 10 is a run's; 11 is given by no opcode: none decodes to an extra transfer with bits 6-5 both zero
+  pub number : among (numberOf (x .0 .answer)) (0 ∷ 1 ∷ 2 ∷ 3 ∷ 4 ∷ 5 ∷ 6 ∷ 7 ∷ 8 ∷ 9 ∷ []) ≡ true
   pub order : InOrder (TooLong l) (Bad m) (InThumb m) unfetched (numberOf (x .0 .answer))
   pub instruction : Reached unfetched m l → Answers m op (x .0 .answer)
   -- any answer but 0 and 1 leaves every register, flag, bank, tag and byte
@@ -142,7 +156,7 @@ pub data Ends (m : Machine) (l : List ℕ) (budget c : ℕ) (a : Answer) : Type 
   at-refusal : c < budget → Quiet c m l → a ≡ stepAt c m l .0 .answer → numberOf a ≢ 0 → numberOf a ≢ 1 → Ends m l budget c a
 
 pub record RunKeeps (m : Machine) (l : List ℕ) (budget : ℕ) (x : Finished × List ℕ) : Type 0 where
-  pub number : among (numberOf (x .0 .answer)) (1 ∷ 2 ∷ 3 ∷ 4 ∷ 5 ∷ 6 ∷ 7 ∷ 8 ∷ 9 ∷ 10 ∷ 11 ∷ []) ≡ true
+  pub number : among (numberOf (x .0 .answer)) (1 ∷ 2 ∷ 3 ∷ 4 ∷ 5 ∷ 6 ∷ 7 ∷ 8 ∷ 9 ∷ 10 ∷ []) ≡ true
   -- the order: 9, 8, then 10
   pub nine : (numberOf (x .0 .answer) ≡ 9) ↔ TooLong l
   pub eight : (numberOf (x .0 .answer) ≡ 8) ↔ ((¬ TooLong l) × Bad m)

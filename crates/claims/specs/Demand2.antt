@@ -1,6 +1,6 @@
 -- Demand 2: the step is the composition of the definitions written from the manual (DDI 0100I; DDI 0406C for the v6K exclusives and RBIT), instruction by instruction, outside the departures D1-D9 of docs/DIFFERENCES.md. The statements; Laws/Demand2.antt proves them.
 use mathlib.Core.Path.{_≡_}
-use mathlib.Core.Bool.{Bool, true, false, not, _&&_}
+use mathlib.Core.Bool.{Bool, true, false}
 use mathlib.Core.List.{List}
 use mathlib.Core.Logic.{_≢_}
 use Prim.Native.Nat.{ℕ, _+_, _-_, _%_, _^_}

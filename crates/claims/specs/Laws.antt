@@ -3,6 +3,7 @@ pub mod Fields
 pub mod Families
 pub mod Encodings
 pub mod Decoding
+pub mod Coprocessors
 pub mod Composition
 pub mod Steps
 pub mod Lengths

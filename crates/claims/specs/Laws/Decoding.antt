@@ -8,7 +8,6 @@ use lib.Dec.{lit≤}
 use borrow.Author.Tests.{ne-eqb, lt-ltb, le-ltb, eqb-true, eqb-false, not-true}
 use Rattle.bits.specs.Cases.{if_then_else_, _==_}
 use Rattle.bits.specs.Fields.{_⟨_⟩, _⟨_‥_⟩}
-use Rattle.decode.specs.declared.Family.{Family}
 use Rattle.decode.specs.declared.Family.the-variants as family
 use Rattle.decode.specs.Families.{comparesNothing, multiplyOrSwapOf, miscellaneousOf, registerSpaceOf, immediateSpaceOf, conditionalOf, unconditionalOf, familyOf}
 use Rattle.claims.specs.Demand2.{Miscellaneous, Encoded, EncodedAlways, Table}

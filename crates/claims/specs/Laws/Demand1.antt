@@ -1,5 +1,5 @@
 -- Demand 1 holds of the public calls: whatever meets a call's promise is as Demand1.antt states.
-use mathlib.Core.Path.{_≡_, sym, subst}
+use mathlib.Core.Path.{sym, subst}
 use mathlib.Core.List.{List}
 use Prim.Native.Nat.{ℕ}
 use Rattle.cpu.specs.declared.Machine.{Machine}

@@ -1,18 +1,20 @@
 -- Which numbers an instruction can answer: the table of Demand1 holds of every family.
-use mathlib.Core.Path.{_≡_, refl, ap, _∙_}
+use mathlib.Core.Path.{_≡_, refl}
 use mathlib.Core.Bool.{Bool, true, false, _&&_}
-use mathlib.Core.List.{List, []}
-use mathlib.Core.Logic.{inl, inr}
+use mathlib.Core.List.{List, [], _∷_}
+use mathlib.Core.Logic.{_≢_, inl, inr}
 use Prim.Native.Nat.{ℕ}
-use Rattle.bits.specs.Cases.{if_then_else_, if-both}
+use borrow.Author.Tests.{eqb-true}
+use Rattle.bits.specs.Cases.{if_then_else_, if-both, _==_}
+use Rattle.bits.specs.Fields.{_⟨_‥_⟩}
 use Rattle.decode.specs.declared.Family.{Family}
 use Rattle.decode.specs.declared.Family.the-variants as family
 use Rattle.cpu.specs.declared.Kind.{Kind}
 use Rattle.cpu.specs.declared.Kind.the-variants as kind
 use Rattle.cpu.specs.declared.Answer.{Answer}
 use Rattle.cpu.specs.declared.Outcome.{Outcome}
-use Rattle.cpu.specs.Outcomes.{sticky, landedOf, exchangedOf, undefinedOf}
-use Rattle.transfer.specs.Transfers.{beside, guardedOf}
+use Rattle.cpu.specs.Outcomes.{sticky, landedOf, exchangedOf}
+use Rattle.transfer.specs.Transfers.{guardedOf}
 use Rattle.transfer.specs.Laws.Guards.{guarded-both}
 use Rattle.memory.specs.declared.Found.{Found}
 use Rattle.dataproc.specs.Dataproc.{placedOf, dataprocOf}
@@ -42,6 +44,12 @@ allows kind.Moves a ns = among 0 ns
 allows kind.Block a ns = among 0 ns && among 7 ns
 allows kind.Call a ns = among 1 ns
 allows kind.Stop a ns = among (numberOf a) ns
+
+-- what holds of the one value where the test passes, and of the other, holds of the choice
+if-by : {A : Type 0} (P : A → Type 0) (t : Bool) {a b : A} → (t ≡ true → P a) → P b → P (if t then a else b)
+unfolding if_then_else_
+if-by P true p q = p refl
+if-by P false p q = q
 
 -- families that can go on: 0 is in the list
 module _ (ns : List ℕ) (z : among 0 ns ≡ true) where
@@ -126,10 +134,10 @@ module _ (ns : List ℕ) (z : among 0 ns ≡ true) where
     unfolding swapOf
     told-swap regs op l = guarded _ regs l _ (landed regs _ _)
 
-    told-extra : (regs : List ℕ) (op : ℕ) (l : List ℕ) → among 2 ns ≡ true → among 11 ns ≡ true → Whole (extraOf regs op l)
+    told-extra : (regs : List ℕ) (op : ℕ) (l : List ℕ) → among 2 ns ≡ true → ((op ⟨ 6 ‥ 5 ⟩ == 0) ≡ true → among 11 ns ≡ true) → Whole (extraOf regs op l)
     unfolding extraOf extraAt extraLoadsOf
-    told-extra regs op l two eleven =
-        if-both Whole _ eleven
+    told-extra regs op l two form =
+        if-by Whole (op ⟨ 6 ‥ 5 ⟩ == 0) form
         (if-both Whole _
         (if-both Whole _ (guarded _ regs l _ (landed _ _ _)) (if-both Whole _ (guarded _ regs l _ (landed _ _ _)) (guarded _ regs l _ (landed _ _ _))))
         (if-both Whole _ (guarded _ regs l _ z)
@@ -158,7 +166,7 @@ told-effect family.BranchExchange regs op s l = told-branch-exchange _ refl regs
 told-effect family.BranchLinkExchange regs op s l = refl
 told-effect family.CountZeros regs op s l = refl
 told-effect family.Single regs op s l = told-single _ refl refl regs op (s .c) l
-told-effect family.Extra regs op s l = told-extra _ refl refl regs op l refl refl
+told-effect family.Extra regs op s l = told-extra _ refl refl regs op l refl (λ _. refl)
 told-effect family.Block regs op s l = told-block _ refl refl regs op l refl
 told-effect family.Swap regs op s l = told-swap _ refl refl regs op l
 told-effect family.Exclusive regs op s l = told-exclusive _ refl refl regs op (isTagged (s .tag)) (tagAddress (s .tag)) l refl
@@ -171,3 +179,9 @@ told-effect family.Breakpoint regs op s l = refl
 told-effect family.Coprocessor regs op s l = refl
 told-effect family.CoprocessorMove regs op s l = told-move _ refl regs op refl
 told-effect family.Undefined regs op s l = refl
+
+-- an extra transfer whose bits 6-5 are not both zero does not answer 11
+pub told-form : (regs : List ℕ) (op : ℕ) (s : Seen) (l : List ℕ) → op ⟨ 6 ‥ 5 ⟩ ≢ 0
+    → (let o = effectOf family.Extra regs op s l .0 in allows (o .kind) (o .answer) (0 ∷ 2 ∷ 7 ∷ [])) ≡ true
+unfolding effectOf
+told-form regs op s l n = told-extra (0 ∷ 2 ∷ 7 ∷ []) refl refl regs op l refl (λ e. absurd (n (eqb-true _ _ e)))

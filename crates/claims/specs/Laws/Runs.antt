@@ -4,26 +4,25 @@ use mathlib.Core.Bool.{Bool, true, false, _||_, false≢true}
 use mathlib.Core.List.{List, [], _∷_}
 use mathlib.Core.Logic.{_↔_, _≢_}
 use native.Mathlib.Omega.{arith}
-use Prim.Native.Nat.{ℕ, zero, suc, _+_, _≤_, _<_}
+use Prim.Native.Nat.{ℕ, zero, suc, _+_, _≤_}
 use lib.ListN.{length}
-use borrow.Author.Tests.{eqb-true, eqb-false, eq-eqb, ne-eqb}
-use Rattle.bits.specs.Cases.{if_then_else_, if-yes, if-no, _==_, _<?_}
+use borrow.Author.Tests.{eqb-true, eqb-false, ne-eqb}
+use Rattle.bits.specs.Cases.{if_then_else_, _==_, _<?_}
 use Rattle.bits.specs.Fields.{bitOf}
 use Rattle.cpu.specs.declared.Machine.{Machine}
 use Rattle.cpu.specs.declared.Answer.{Answer}
 use Rattle.cpu.specs.declared.Answer.the-variants as answer
 use Rattle.cpu.specs.Answers.{badOf, isDone, isCall}
-use Rattle.engine.specs.declared.Stepped.{Stepped}
 use Rattle.engine.specs.declared.Finished.{Finished}
 use Rattle.engine.specs.Step.{stepped, gatedOf, stepOf}
 use Rattle.engine.specs.Run.{endedOf, goOf, runOf}
 use Rattle.engine.specs.Laws.Kept.{step-ge-kept}
-use Rattle.claims.specs.Demand1.{numberOf, among, TooLong, Bad, StepAnswered, after, stepAt, numberAt, Quiet, Ends, at-budget, at-call, at-refusal, RunKeeps}
+use Rattle.claims.specs.Demand1.{numberOf, among, TooLong, Bad, after, Quiet, Ends, at-budget, at-call, at-refusal, RunKeeps}
 use Rattle.claims.specs.Laws.Steps.{agree, neither, wrong, among-within, all, long-test, bad-test, not-so, done-by-number, call-by-number, step-answered}
 use Rattle.claims.specs.Laws.Lengths.{length-step}
 
 abbrev ending : List ℕ
-ending = 1 ∷ 2 ∷ 3 ∷ 4 ∷ 5 ∷ 6 ∷ 7 ∷ 8 ∷ 9 ∷ 10 ∷ 11 ∷ []
+ending = 1 ∷ 2 ∷ 3 ∷ 4 ∷ 5 ∷ 6 ∷ 7 ∷ 8 ∷ 9 ∷ 10 ∷ []
 
 -- n steps are left, k were counted, and c more are
 record Going (n k : ℕ) (m : Machine) (l : List ℕ) (x : Finished × List ℕ) : Type 0 where
@@ -146,9 +145,9 @@ module _ (m : Machine) (l : List ℕ) where
   last-number : (n : ℕ) → among n all ≡ true → n ≢ 0 → among n ending ≡ true
   last-number n e z = go (n == 0) (ne-eqb n 0 z) e
     where
-      go : (b : Bool) → b ≡ false → (b || among n (1 ∷ 2 ∷ 3 ∷ 4 ∷ 5 ∷ 6 ∷ 7 ∷ 8 ∷ 9 ∷ 11 ∷ [])) ≡ true → among n ending ≡ true
+      go : (b : Bool) → b ≡ false → (b || among n (1 ∷ 2 ∷ 3 ∷ 4 ∷ 5 ∷ 6 ∷ 7 ∷ 8 ∷ 9 ∷ [])) ≡ true → among n ending ≡ true
       go true f h = absurd (false≢true (sym f))
-      go false f h = among-within n (1 ∷ 2 ∷ 3 ∷ 4 ∷ 5 ∷ 6 ∷ 7 ∷ 8 ∷ 9 ∷ 11 ∷ []) ending refl h
+      go false f h = among-within n (1 ∷ 2 ∷ 3 ∷ 4 ∷ 5 ∷ 6 ∷ 7 ∷ 8 ∷ 9 ∷ []) ending refl h
 
   stop : (n k : ℕ) (call : Bool) → isCall said ≡ call → numberOf said ≢ 0 → Going (suc n) k m l (endedOf (k + bitOf call) (stepOf m l))
   unfolding after

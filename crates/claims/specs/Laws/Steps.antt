@@ -1,18 +1,17 @@
 -- What a step answers, and in which order.
 use mathlib.Core.Path.{_≡_, refl, sym, ap, subst, _∙_}
-use mathlib.Core.Bool.{Bool, true, false, not, _&&_, _||_, false≢true, true≢false}
+use mathlib.Core.Bool.{Bool, true, false, _&&_, _||_, false≢true, true≢false}
 use mathlib.Core.List.{List, [], _∷_}
 use mathlib.Core.Logic.{_↔_, _≢_, Iff·rfl}
 use native.Mathlib.Omega.{arith}
-use Prim.Native.Nat.{ℕ, _+_, _%_, _^_, _≤_, _<_}
-use lib.ListN.{length, set}
-use borrow.Author.Tests.{ltb-true, ltb-false, lt-ltb, le-ltb, eqb-true, eqb-false, eq-eqb, ne-eqb}
+use Prim.Native.Nat.{ℕ, _+_, _%_, _≤_}
+use lib.ListN.{length}
+use borrow.Author.Tests.{ltb-true, lt-ltb, le-ltb, eqb-true, eqb-false, eq-eqb, ne-eqb}
 use Rattle.bits.specs.Cases.{if_then_else_, if-yes, if-no, if-both, _==_, _<?_}
 use Rattle.bits.specs.Fields.{_⟨_‥_⟩}
 use Rattle.memory.specs.declared.Found.{Found}
 use Rattle.memory.specs.declared.Found.the-variants.{Inside, Outside}
 use Rattle.memory.specs.Bytes.{wordAt}
-use Rattle.memory.specs.Plans.{reachesOut}
 use Rattle.decode.specs.declared.Family.{Family}
 use Rattle.decode.specs.declared.Family.the-variants as family
 use Rattle.decode.specs.Families.{familyOf}
@@ -25,24 +24,36 @@ use Rattle.cpu.specs.declared.Outcome.{Outcome}
 use Rattle.cpu.specs.Answers.{badOf, isDone, isCall, refuses}
 use Rattle.cpu.specs.With.{withRegs}
 use Rattle.block.specs.UserBlock.{userGuardedOf, userBlockOf}
-use Rattle.misc.specs.Stops.{swiOf}
-use Rattle.arm.specs.Turn.{seen, effectOf, turnOf}
+use Rattle.transfer.specs.Transfers.{beside}
+use Rattle.misc.specs.Stops.{swiOf, bkptOf, coprocessorOf, coprocessorMoveOf}
+use Rattle.arm.specs.Turn.{effectOf}
 use Rattle.engine.specs.declared.Stepped.{Stepped}
-use Rattle.engine.specs.Step.{stepped, settledOf, blockedOf, nextOf, turnedOf, executedOf, fetches, takenOf, givenOf, gatedOf, stepOf, stepWithOf}
-use Rattle.engine.specs.Laws.Fits.{AllFit, good-fits, fits-good}
+use Rattle.engine.specs.Step.{stepped, settledOf, blockedOf, nextOf, executedOf, fetches, takenOf, givenOf, gatedOf, stepOf, stepWithOf}
+use Rattle.engine.specs.Laws.Fits.{good-fits, fits-good}
 use Rattle.engine.specs.Laws.Fetch.{fetches-inside}
 use Rattle.engine.specs.Laws.AsBefore.{AsBefore, step-as-before, given-as-before}
-use Rattle.claims.specs.Demand1.{numberOf, among, numbersOf, passes, IsSwi, InOrder, Answers, Answered, TooLong, Bad, InThumb, Unfetched, Reached, StepAnswered, GivenAnswered}
+use Rattle.claims.specs.Demand1.{numberOf, among, numbersOf, passes, IsSwi, IsBkpt, IsCoprocessor, InOrder, Answers, TooLong, Bad, InThumb, Unfetched, Reached, StepAnswered, GivenAnswered}
 use Rattle.claims.specs.Demand2.{lent, seenOf, settled}
-use Rattle.claims.specs.Laws.Families.{allows, told-effect}
-use Rattle.claims.specs.Laws.Encodings.{swi-is, swi-only}
+use Rattle.claims.specs.Laws.Families.{allows, told-effect, told-form}
+use Rattle.claims.specs.Laws.Encodings.{both, swi-is, swi-only, bkpt-only, coprocessor-only, form-only}
+use Rattle.claims.specs.Laws.Decoding.{tables}
+use Rattle.claims.specs.Laws.Coprocessors.{move-stops, move-passes, register-moves, no-move}
 use Rattle.claims.specs.Laws.Composition.{executed-passed, executed-failed}
 
--- ---- an outcome settled answers a number that its kind allows
+-- ---- tests
 
-both : (a b : Bool) → (a && b) ≡ true → (a ≡ true) × (b ≡ true)
-both true b e = (refl, e)
-both false b e = absurd (false≢true e)
+pub not-so : (b : Bool) → ¬ (b ≡ true) → b ≡ false
+not-so true h = absurd (h refl)
+not-so false h = refl
+
+so : (b : Bool) → ¬ (b ≡ false) → b ≡ true
+so true h = refl
+so false h = absurd (h refl)
+
+pub wrong : {a b : ℕ} → (a == b) ≡ false → a ≢ b
+wrong {a} {b} = eqb-false a b
+
+-- ---- an outcome settled answers a number that its kind allows
 
 told-user : (f : Found) (at : ℕ) (m : Machine) (l : List ℕ) (done : Machine × List ℕ) (ns : List ℕ) → among 0 ns ≡ true → among 7 ns ≡ true
     → among (numberOf (blockedOf at (userGuardedOf f m l done) .0 .answer)) ns ≡ true
@@ -69,7 +80,11 @@ told-settled kind.Stop m at op o l ns e = e
 -- ---- lists of numbers
 
 abbrev others : List ℕ
-others = 0 ∷ 1 ∷ 2 ∷ 3 ∷ 4 ∷ 7 ∷ 11 ∷ []
+others = 0 ∷ 1 ∷ 2 ∷ 3 ∷ 4 ∷ 7 ∷ []
+
+-- with 11, which a definition can answer and no opcode comes to
+abbrev others-and-11 : List ℕ
+others-and-11 = 0 ∷ 1 ∷ 2 ∷ 3 ∷ 4 ∷ 7 ∷ 11 ∷ []
 
 -- every number of the one stands in the other
 abbrev pub within : List ℕ → List ℕ → Bool
@@ -84,7 +99,10 @@ among-within n (k ∷ ns) ms w e = go (n == k) refl (among-within n ns ms (both 
     go true q rest f = rw (eqb-true n k q) (both (among k ms) (within ns ms) w .0)
     go false q rest f = rest f
 
-own-numbers : (f : Family) → within (numbersOf f) others ≡ true
+without-11 : (n : ℕ) → n ≢ 11 → among n others-and-11 ≡ true → among n others ≡ true
+without-11 n h e = rw (ne-eqb n 11 h) at e
+
+own-numbers : (f : Family) → within (numbersOf f) others-and-11 ≡ true
 own-numbers family.DataProcessing = refl
 own-numbers family.MultiplyShort = refl
 own-numbers family.MultiplyLong = refl
@@ -122,18 +140,30 @@ module _ (m : Machine) (op : ℕ) (l : List ℕ) where
   failed : passes m op ≡ false → answered ≡ answer.Done
   failed e = ap answerOf (executed-failed m op l e)
 
+  -- what the definition of a family answers
+  by-family : (f : Family) → passes m op ≡ true → familyOf op ≡ f → executedOf m op l ≡ settled m op (effectOf f (lent m) op (seenOf m) l)
+  by-family f e q = executed-passed m op l e ∙ ap (λ (f : Family). settled m op (effectOf f (lent m) op (seenOf m) l)) q
+
+  told : (f : Family) (ns : List ℕ) → passes m op ≡ true → familyOf op ≡ f
+      → (let o = effectOf f (lent m) op (seenOf m) l .0 in allows (o .kind) (o .answer) ns) ≡ true → among (numberOf answered) ns ≡ true
+  told f ns e q t =
+      let x = effectOf f (lent m) op (seenOf m) l in
+      subst (λ (y : Stepped × List ℕ). among (numberOf (answerOf y)) ns ≡ true) (sym (by-family f e q))
+      (told-settled (x .0 .kind) (withRegs m (x .1)) (nextOf m) op (x .0) (x .2) ns t)
+
   passed : passes m op ≡ true → among (numberOf answered) (numbersOf (familyOf op)) ≡ true
-  passed e =
-      let x = effectOf (familyOf op) (lent m) op (seenOf m) l in
-      subst (λ (y : Stepped × List ℕ). among (numberOf (answerOf y)) (numbersOf (familyOf op)) ≡ true) (sym (executed-passed m op l e))
-      (told-settled (x .0 .kind) (withRegs m (x .1)) (nextOf m) op (x .0) (x .2) (numbersOf (familyOf op))
-      (told-effect (familyOf op) (lent m) op (seenOf m) l))
+  passed e = told (familyOf op) (numbersOf (familyOf op)) e refl (told-effect (familyOf op) (lent m) op (seenOf m) l)
 
   called : passes m op ≡ true → IsSwi op → answered ≡ answer.Supervisor (op ⟨ 23 ‥ 0 ⟩)
   unfolding effectOf settledOf swiOf
-  called e w =
-      ap answerOf
-      (executed-passed m op l e ∙ ap (λ (f : Family). settled m op (effectOf f (lent m) op (seenOf m) l)) (swi-is op w))
+  called e w = ap answerOf (by-family family.Supervisor e (swi-is op w))
+
+  stopped : passes m op ≡ true → IsBkpt op → numberOf answered ≡ 3
+  unfolding effectOf settledOf bkptOf
+  stopped e (c, b, s, q) =
+      let z : op ⟨ 27 ‥ 25 ⟩ ≡ 0 = omega arith in
+      let t : op ⟨ 24 ‥ 23 ⟩ ≡ 2 = omega arith in
+      ap (λ (y : Stepped × List ℕ). numberOf (answerOf y)) (by-family family.Breakpoint e (tables op .conditional c .bkpt z (t, s) q))
 
   -- either way of the condition
   by-condition : (P : Type 0) → (passes m op ≡ false → P) → (passes m op ≡ true → P) → P
@@ -143,17 +173,67 @@ module _ (m : Machine) (op : ℕ) (l : List ℕ) where
       go false e = otherwise e
       go true e = then-so e
 
+  -- an answer other than 0 is that of an instruction whose condition passes
+  when-passed : (k : ℕ) → (k == 0) ≡ false → numberOf answered ≡ k → (passes m op ≡ true) × (among k (numbersOf (familyOf op)) ≡ true)
+  when-passed k z n =
+      by-condition ((passes m op ≡ true) × (among k (numbersOf (familyOf op)) ≡ true))
+      (λ e. absurd (eqb-false k 0 z (sym n ∙ ap numberOf (failed e))))
+      (λ e. (e, rw n at (passed e)))
+
   calls-only : numberOf answered ≡ 1 → (passes m op ≡ true) × IsSwi op
-  calls-only n =
-      by-condition ((passes m op ≡ true) × IsSwi op)
-      (λ e. let z : _≡_ {A = ℕ} 0 1 = sym (ap numberOf (failed e)) ∙ n in absurd (omega arith))
-      (λ e. (e, swi-only op (rw n at (passed e))))
+  calls-only n = let p = when-passed 1 refl n in (p .0, swi-only op (p .1))
+
+  stops-only : numberOf answered ≡ 3 → (passes m op ≡ true) × IsBkpt op
+  stops-only n = let p = when-passed 3 refl n in (p .0, bkpt-only op (p .1))
+
+  -- coprocessors
+  abbrev moved : Outcome × List ℕ → Answer
+  moved x = answerOf (settled m op (beside x l))
+
+  by-move : passes m op ≡ true → familyOf op ≡ family.CoprocessorMove → answered ≡ moved (coprocessorMoveOf (lent m) op)
+  unfolding effectOf
+  by-move e q = ap answerOf (by-family family.CoprocessorMove e q)
+
+  enters : passes m op ≡ true → IsCoprocessor op → numberOf answered ≡ 4
+  unfolding effectOf settledOf coprocessorOf
+  enters e (t, s, u) =
+      no-move op t s (numberOf answered ≡ 4)
+      (λ q. ap (λ (y : Stepped × List ℕ). numberOf (answerOf y)) (by-family family.Coprocessor e q))
+      (λ f g. ap numberOf (by-move e (register-moves op t s f g) ∙ ap moved (move-stops (lent m) op (u f g))))
+
+  passes-over : passes m op ≡ true → familyOf op ≡ family.CoprocessorMove → among (op ⟨ 11 ‥ 8 ⟩) (10 ∷ 11 ∷ 15 ∷ []) ≡ false → numberOf answered ≡ 0
+  unfolding settledOf
+  passes-over e q f = ap numberOf (by-move e q ∙ ap moved (move-passes (lent m) op f))
+
+  enters-only : numberOf answered ≡ 4 → (passes m op ≡ true) × IsCoprocessor op
+  enters-only n = (e, (t, s, λ f g. so _ (λ w. wrong refl (sym n ∙ passes-over e (register-moves op t s f g) w))))
+    where
+      p : (passes m op ≡ true) × (among 4 (numbersOf (familyOf op)) ≡ true)
+      p = when-passed 4 refl n
+
+      e : passes m op ≡ true
+      e = p .0
+
+      t : op ⟨ 27 ‥ 26 ⟩ ≡ 3
+      t = coprocessor-only op (p .1)
+
+      s : ¬ IsSwi op
+      s w = false≢true (rw (swi-is op w) at (p .1))
+
+  -- no opcode decodes to an extra transfer with bits 6-5 both zero
+  no-form : numberOf answered ≢ 11
+  no-form n =
+      let p = when-passed 11 refl n in
+      let (c, z, s, f, q) = form-only op (p .1) in
+      false≢true (rw n at (told family.Extra (0 ∷ 2 ∷ 7 ∷ []) (p .0) (tables op .conditional c .extra z s f q) (told-form (lent m) op (seenOf m) l q)))
 
   pub answers : Answers m op answered
   answers =
       record {
         failed = λ e. ap numberOf (failed e);
         passed = passed;
+        four = (enters-only, λ p. enters (p .0) (p .1));
+        three = (stops-only, λ p. stopped (p .0) (p .1));
         one = (calls-only, λ p. ap numberOf (called (p .0) (p .1)));
         one-value = λ n. let p = calls-only n in called (p .0) (p .1);
       }
@@ -162,16 +242,13 @@ module _ (m : Machine) (op : ℕ) (l : List ℕ) where
   own =
       by-condition (among (numberOf answered) others ≡ true)
       (λ e. rw (failed e))
-      (λ e. among-within (numberOf answered) (numbersOf (familyOf op)) others (own-numbers (familyOf op)) (passed e))
+      (λ e. without-11 (numberOf answered) no-form (among-within (numberOf answered) (numbersOf (familyOf op)) others-and-11 (own-numbers (familyOf op)) (passed e)))
 
 -- ---- the order, by the tests of the gate, of T and of the fetch
 
 -- a number of the instruction's own is none of the gate's
 own-not : {n : ℕ} (k : ℕ) → among n others ≡ true → among k others ≡ false → n ≢ k
 own-not k e f h = false≢true (sym f ∙ (rw h at e))
-
-pub wrong : {a b : ℕ} → (a == b) ≡ false → a ≢ b
-wrong {a} {b} = eqb-false a b
 
 -- both sides hold, or neither
 pub agree : {P Q : Type 0} → P → Q → P ↔ Q
@@ -249,14 +326,6 @@ module _ {long bad thumb unfetched : Type 0} (m : Machine) (l : List ℕ) (e : S
 
 -- ---- what the tests mean
 
-pub not-so : (b : Bool) → ¬ (b ≡ true) → b ≡ false
-not-so true h = absurd (h refl)
-not-so false h = refl
-
-so : (b : Bool) → ¬ (b ≡ false) → b ≡ true
-so true h = refl
-so false h = absurd (h refl)
-
 pub long-test : (l : List ℕ) → TooLong l ↔ ((65536 <? length l) ≡ true)
 long-test l = (lt-ltb _ _, ltb-true _ _)
 
@@ -284,7 +353,7 @@ fetch-test m l = (λ u. go (fetches l (nextOf m)) refl u, λ e p. false≢true (
 -- ---- both steps
 
 abbrev pub all : List ℕ
-all = 0 ∷ 1 ∷ 2 ∷ 3 ∷ 4 ∷ 5 ∷ 6 ∷ 7 ∷ 8 ∷ 9 ∷ 11 ∷ []
+all = 0 ∷ 1 ∷ 2 ∷ 3 ∷ 4 ∷ 5 ∷ 6 ∷ 7 ∷ 8 ∷ 9 ∷ []
 
 abbrev Numbered : Stepped × List ℕ → Type 0
 Numbered x = among (numberOf (x .0 .answer)) all ≡ true
