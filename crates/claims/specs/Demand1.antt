@@ -3,8 +3,8 @@ use mathlib.Core.Path.{_≡_}
 use mathlib.Core.Bool.{Bool, true, false, _||_}
 use mathlib.Core.List.{List, [], _∷_}
 use mathlib.Core.Logic.{_↔_, _≢_}
-use Prim.Native.Nat.{ℕ, zero, suc, _+_, _%_, _<_, _≤_}
-use lib.ListN.{length}
+use Prim.Native.Nat.{ℕ, zero, suc, _+_, _*_, _/_, _%_, _^_, _<_, _≤_}
+use lib.ListN.{length, set}
 use Rattle.bits.specs.Cases.{_==_}
 use Rattle.bits.specs.Fields.{_⟨_⟩, _⟨_‥_⟩}
 use Rattle.psr.specs.Status.{passedOf}
@@ -16,6 +16,7 @@ use Rattle.cpu.specs.declared.Machine.{Machine}
 use Rattle.cpu.specs.declared.Answer.{Answer}
 use Rattle.cpu.specs.declared.Answer.the-variants as answer
 use Rattle.cpu.specs.Answers.{reported}
+use Rattle.cpu.specs.With.{withRegs}
 use Rattle.engine.specs.declared.Stepped.{Stepped}
 use Rattle.engine.specs.declared.Finished.{Finished}
 use Rattle.engine.specs.Step.{nextOf, stepOf}
@@ -105,13 +106,19 @@ IsCoprocessor op =
     × (¬ IsSwi op)
     × (op ⟨ 25 ⟩ ≡ true → op ⟨ 4 ⟩ ≡ true → among (op ⟨ 11 ‥ 8 ⟩) (10 ∷ 11 ∷ 15 ∷ []) ≡ true)
 
+-- every machine has an r15 of 32 bits; a list of registers need not
+abbrev pub HasR15 : Machine → Type 0
+HasR15 m = (15 < length (m .regs)) × (nextOf m < 2 ^ 32)
+
 pub record Answers (m : Machine) (op : ℕ) (a : Answer) : Type 0 where
   pub failed : passes m op ≡ false → numberOf a ≡ 0
   pub passed : passes m op ≡ true → among (numberOf a) (numbersOf (familyOf op)) ≡ true
   pub one : (numberOf a ≡ 1) ↔ ((passes m op ≡ true) × IsSwi op)
   pub one-value : numberOf a ≡ 1 → a ≡ answer.Supervisor (op ⟨ 23 ‥ 0 ⟩)
   pub three : (numberOf a ≡ 3) ↔ ((passes m op ≡ true) × IsBkpt op)
+  pub three-value : HasR15 m → numberOf a ≡ 3 → a ≡ answer.Breakpoint (nextOf m) (op ⟨ 19 ‥ 8 ⟩ * 16 + op ⟨ 3 ‥ 0 ⟩)
   pub four : (numberOf a ≡ 4) ↔ ((passes m op ≡ true) × IsCoprocessor op)
+  pub four-value : numberOf a ≡ 4 → a ≡ answer.Coprocessor op
 
 -- ---- a step, whose opcode is op where it is reached
 
@@ -119,7 +126,11 @@ pub record Answered (unfetched : Type 0) (op : ℕ) (m : Machine) (l : List ℕ)
   -- 10 is a run's; 11 is given by no opcode: none decodes to an extra transfer with bits 6-5 both zero
   pub number : among (numberOf (x .0 .answer)) (0 ∷ 1 ∷ 2 ∷ 3 ∷ 4 ∷ 5 ∷ 6 ∷ 7 ∷ 8 ∷ 9 ∷ []) ≡ true
   pub order : InOrder (TooLong l) (Bad m) (InThumb m) unfetched (numberOf (x .0 .answer))
+  pub six-value : numberOf (x .0 .answer) ≡ 6 → x .0 .answer ≡ answer.Fetch (nextOf m)
   pub instruction : Reached unfetched m l → Answers m op (x .0 .answer)
+  -- answer 1 leaves r15 = A + 4 with its low two bits clear, and changes nothing else
+  pub called-machine : HasR15 m → numberOf (x .0 .answer) ≡ 1 → x .0 .machine ≡ withRegs m (set (m .regs) 15 ((nextOf m + 4) % 2 ^ 32 / 4 * 4))
+  pub called-bytes : numberOf (x .0 .answer) ≡ 1 → x .1 ≡ l
   -- any answer but 0 and 1 leaves every register, flag, bank, tag and byte
   pub machine : numberOf (x .0 .answer) ≢ 0 → numberOf (x .0 .answer) ≢ 1 → x .0 .machine ≡ m
   pub bytes : numberOf (x .0 .answer) ≢ 0 → numberOf (x .0 .answer) ≢ 1 → x .1 ≡ l

@@ -5,6 +5,7 @@ pub mod Encodings
 pub mod Decoding
 pub mod Coprocessors
 pub mod Composition
+pub mod Instructions
 pub mod Steps
 pub mod Lengths
 pub mod Runs
