@@ -8,6 +8,7 @@ pub mod Composition
 pub mod Instructions
 pub mod Steps
 pub mod Lengths
+pub mod Accesses
 pub mod Runs
 pub mod Demand1
 pub mod Demand2

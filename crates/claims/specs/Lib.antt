@@ -2,5 +2,6 @@ pub mod Cases
 pub mod Unique
 pub mod Demand1
 pub mod Demand2
+pub mod Accesses
 pub mod WrongCores
 pub mod Laws

@@ -66,11 +66,11 @@ module _ (ns : List ℕ) (z : among 0 ns ≡ true) where
   unfolding sticky
   told-sticky on = if-both Told on z z
 
-  landed : (regs : List ℕ) (rd value : ℕ) → Alone (landedOf regs rd value)
+  pub landed : (regs : List ℕ) (rd value : ℕ) → Alone (landedOf regs rd value)
   unfolding landedOf
   landed regs rd value = if-both Alone _ z z
 
-  exchanged : (regs : List ℕ) (to : ℕ) → Alone (exchangedOf regs to)
+  pub exchanged : (regs : List ℕ) (to : ℕ) → Alone (exchangedOf regs to)
   unfolding exchangedOf
   exchanged regs to = if-both Alone _ z z
 

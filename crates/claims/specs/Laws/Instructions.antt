@@ -58,7 +58,7 @@ unfolding blockedOf userGuardedOf if_then_else_
 told-user Inside at m l done ns z seven = z
 told-user (Outside address) at m l done ns z seven = seven
 
-told-settled : (q : Kind) (m : Machine) (at op : ℕ) (o : Outcome) (l : List ℕ) (ns : List ℕ) → allows q (o .answer) ns ≡ true
+pub told-settled : (q : Kind) (m : Machine) (at op : ℕ) (o : Outcome) (l : List ℕ) (ns : List ℕ) → allows q (o .answer) ns ≡ true
     → among (numberOf (settledOf q m at op o l .0 .answer)) ns ≡ true
 unfolding settledOf userBlockOf
 told-settled kind.Nothing m at op o l ns e = e
