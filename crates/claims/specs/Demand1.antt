@@ -110,6 +110,7 @@ IsCoprocessor op =
 abbrev pub HasR15 : Machine → Type 0
 HasR15 m = (15 < length (m .regs)) × (nextOf m < 2 ^ 32)
 
+-- 2 and 7 have their own files, Undefined.antt and Accesses.antt; what is left is 0
 pub record Answers (m : Machine) (op : ℕ) (a : Answer) : Type 0 where
   pub failed : passes m op ≡ false → numberOf a ≡ 0
   pub passed : passes m op ≡ true → among (numberOf a) (numbersOf (familyOf op)) ≡ true

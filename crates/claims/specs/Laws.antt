@@ -1,4 +1,5 @@
 -- Laws that the claims cite; nothing here has to be believed.
+pub mod Choices
 pub mod Fields
 pub mod Families
 pub mod Encodings
@@ -9,6 +10,7 @@ pub mod Instructions
 pub mod Steps
 pub mod Lengths
 pub mod Accesses
+pub mod Undefined
 pub mod Runs
 pub mod Demand1
 pub mod Demand2

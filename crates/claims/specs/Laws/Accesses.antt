@@ -1,6 +1,6 @@
 -- Answer 7 is given exactly when an access of the instruction lies outside.
 use mathlib.Core.Path.{_≡_, refl, sym, ap, subst, _∙_}
-use mathlib.Core.Bool.{Bool, true, false, false≢true}
+use mathlib.Core.Bool.{true, false, false≢true}
 use mathlib.Core.List.{List, [], _∷_}
 use mathlib.Core.Logic.{_≢_}
 use Prim.Native.Nat.{ℕ}
@@ -26,12 +26,13 @@ use Rattle.block.specs.UserBlock.{userMovedOf, userGuardedOf, userBlockOf}
 use Rattle.arm.specs.Turn.{Seen, isTagged, tagAddress, effectOf}
 use Rattle.engine.specs.declared.Stepped.{Stepped}
 use Rattle.engine.specs.Step.{settledOf, blockedOf, nextOf, executedOf}
+use Rattle.claims.specs.Laws.Choices.{so, if-pair}
 use Rattle.claims.specs.Demand1.{numberOf, among, numbersOf, passes}
 use Rattle.claims.specs.Demand2.{lent, seenOf, settled}
 use Rattle.claims.specs.Accesses.{Accesses, none, outside, extraReach, exclusiveReach, reachOf, foundBy, Bounded}
 use Rattle.claims.specs.Laws.Families.{allows, told-effect, landed, exchanged}
 use Rattle.claims.specs.Laws.Composition.{executed-passed, executed-failed}
-use Rattle.claims.specs.Laws.Instructions.{so, wrong, told-settled}
+use Rattle.claims.specs.Laws.Instructions.{wrong, told-settled}
 
 -- what an answer is by the first access outside
 abbrev Says : Found → Answer → Type 0
@@ -44,11 +45,6 @@ calm = 0 ∷ 1 ∷ 2 ∷ 3 ∷ 4 ∷ 11 ∷ []
 
 abbrev Calm : Outcome × List ℕ × List ℕ → Type 0
 Calm x = allows (x .0 .kind) (x .0 .answer) calm ≡ true
-
-if-pair : {A B : Type 0} (P : A → B → Type 0) (t : Bool) {a b : A} {x y : B} → P a x → P b y → P (if t then a else b) (if t then x else y)
-unfolding if_then_else_
-if-pair P true p q = p
-if-pair P false p q = q
 
 module _ (m : Machine) (op : ℕ) (l : List ℕ) where
   abbrev answerOf : Outcome × List ℕ × List ℕ → Answer

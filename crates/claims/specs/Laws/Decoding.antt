@@ -10,15 +10,10 @@ use Rattle.bits.specs.Cases.{if_then_else_, _==_}
 use Rattle.bits.specs.Fields.{_⟨_⟩, _⟨_‥_⟩}
 use Rattle.decode.specs.declared.Family.the-variants as family
 use Rattle.decode.specs.Families.{comparesNothing, multiplyOrSwapOf, miscellaneousOf, registerSpaceOf, immediateSpaceOf, conditionalOf, unconditionalOf, familyOf}
+use Rattle.claims.specs.Laws.Choices.{not-both}
 use Rattle.claims.specs.Demand2.{Miscellaneous, Encoded, EncodedAlways, Table}
 use Rattle.claims.specs.Laws.Fields.{hi, lo, bits-27-25, bits-24-23, bits-23-21, bits-22-21, bits-6-5, bit-24, bit-23, bit-21, bit-20, bit-7, bit-4}
 use Rattle.claims.specs.Laws.Encodings.{conditional, unconditional, swi-is}
-
--- a test of two parts fails where not both hold
-not-both : (x y : Bool) → ¬ ((x ≡ true) × (y ≡ true)) → (x && y) ≡ false
-not-both true true n = absurd (n (refl, refl))
-not-both true false n = refl
-not-both false y n = refl
 
 module _ (op : ℕ) where
   compares-yes : Miscellaneous op → comparesNothing (hi op) ≡ true

@@ -10,8 +10,10 @@ use Rattle.engine.specs.Step.{nextOf}
 use Rattle.engine.specs.Promises.{Steps, StepsWith, Runs}
 use Rattle.claims.specs.Demand1.{Unfetched, Reached, StepAnswered, GivenAnswered, RunKeeps}
 use Rattle.claims.specs.Accesses.{Bounded}
+use Rattle.claims.specs.Undefined.{Refused}
 use Rattle.claims.specs.Laws.Steps.{step-is, step-with-is, step-answered, given-answered}
 use Rattle.claims.specs.Laws.Accesses.{bounded}
+use Rattle.claims.specs.Laws.Undefined.{refused-is}
 use Rattle.claims.specs.Laws.Runs.{run-keeps}
 
 pub step : (m : Machine) (l : List ℕ) (x : Stepped × List ℕ) → Steps m l x → StepAnswered m l x
@@ -31,3 +33,12 @@ step-bounded m l x e r =
 pub step-with-an-opcode-bounded : (m : Machine) (op : ℕ) (l : List ℕ) (x : Stepped × List ℕ) → StepsWith m op l x → Reached ⊥ m l → Bounded m op l (x .0 .answer)
 step-with-an-opcode-bounded m op l x e r =
     subst (λ (y : Stepped × List ℕ). Bounded m op l (y .0 .answer)) (sym (e ∙ step-with-is m l op r)) (bounded m op l)
+
+-- answer 2 (Undefined.antt), likewise
+pub step-refused : (m : Machine) (l : List ℕ) (x : Stepped × List ℕ) → Steps m l x → Reached (Unfetched m l) m l → Refused m (wordAt l (nextOf m)) (x .0 .answer)
+step-refused m l x e r =
+    subst (λ (y : Stepped × List ℕ). Refused m (wordAt l (nextOf m)) (y .0 .answer)) (sym (e ∙ step-is m l r)) (refused-is m (wordAt l (nextOf m)) l)
+
+pub step-with-an-opcode-refused : (m : Machine) (op : ℕ) (l : List ℕ) (x : Stepped × List ℕ) → StepsWith m op l x → Reached ⊥ m l → Refused m op (x .0 .answer)
+step-with-an-opcode-refused m op l x e r =
+    subst (λ (y : Stepped × List ℕ). Refused m op (y .0 .answer)) (sym (e ∙ step-with-is m l op r)) (refused-is m op l)

@@ -12,24 +12,9 @@ use Rattle.bits.specs.Laws.Order.{apart-le}
 use Rattle.decode.specs.declared.Family.{Family}
 use Rattle.decode.specs.declared.Family.the-variants as family
 use Rattle.decode.specs.Families.{comparesNothing, multiplyOrSwapOf, miscellaneousOf, registerSpaceOf, immediateSpaceOf, conditionalOf, unconditionalOf, familyOf}
+use Rattle.claims.specs.Laws.Choices.{both, later, first}
 use Rattle.claims.specs.Demand1.{among, numbersOf, IsSwi, IsBkpt}
 use Rattle.claims.specs.Laws.Fields.{hi, lo, bits-27-25, bits-24-23, bits-6-5, bit-24, bit-20, bit-7, bit-4}
-
--- both parts of a test
-pub both : (a b : Bool) → (a && b) ≡ true → (a ≡ true) × (b ≡ true)
-both true b e = (refl, e)
-both false b e = absurd (false≢true e)
-
--- what only the second value of a choice has: the test fails
-later : {A : Type 0} (P : A → Type 0) (t : Bool) {a b : A} → ¬ P a → P (if t then a else b) → (t ≡ false) × P b
-unfolding if_then_else_
-later P true n p = absurd (n p)
-later P false n p = (refl, p)
-
-first : {A : Type 0} (P : A → Type 0) (t : Bool) {a b : A} → ¬ P b → P (if t then a else b) → (t ≡ true) × P a
-unfolding if_then_else_
-first P true n p = (refl, p)
-first P false n p = absurd (n p)
 
 -- a family that can answer k, and one that cannot
 abbrev Says : ℕ → Family → Type 0

@@ -1,11 +1,11 @@
 -- Which numbers an instruction can answer: the table of Demand1 holds of every family.
 use mathlib.Core.Path.{_≡_, refl}
-use mathlib.Core.Bool.{Bool, true, false, _&&_}
+use mathlib.Core.Bool.{Bool, true, _&&_}
 use mathlib.Core.List.{List, [], _∷_}
 use mathlib.Core.Logic.{_≢_, inl, inr}
 use Prim.Native.Nat.{ℕ}
 use borrow.Author.Tests.{eqb-true}
-use Rattle.bits.specs.Cases.{if_then_else_, if-both, _==_}
+use Rattle.bits.specs.Cases.{if-both, _==_}
 use Rattle.bits.specs.Fields.{_⟨_‥_⟩}
 use Rattle.decode.specs.declared.Family.{Family}
 use Rattle.decode.specs.declared.Family.the-variants as family
@@ -28,6 +28,7 @@ use Rattle.loadstore.specs.Extra.{extraLoadsOf, extraAt, extraOf}
 use Rattle.exclusive.specs.Exclusive.{swapOf, ldrexOf, ldrexdOf, strexOf, strexdOf, exclusiveOf}
 use Rattle.block.specs.Block.{storeOf, continuedOf, loadOf, blockOf}
 use Rattle.arm.specs.Turn.{Seen, isTagged, tagAddress, effectOf}
+use Rattle.claims.specs.Laws.Choices.{if-by}
 use Rattle.claims.specs.Demand1.{numberOf, among, numbersOf}
 
 -- the numbers that an outcome of a kind can come to are in a list
@@ -45,12 +46,6 @@ allows kind.Block a ns = among 0 ns && among 7 ns
 allows kind.Call a ns = among 1 ns
 allows kind.Stop a ns = among (numberOf a) ns
 
--- what holds of the one value where the test passes, and of the other, holds of the choice
-if-by : {A : Type 0} (P : A → Type 0) (t : Bool) {a b : A} → (t ≡ true → P a) → P b → P (if t then a else b)
-unfolding if_then_else_
-if-by P true p q = p refl
-if-by P false p q = q
-
 -- families that can go on: 0 is in the list
 module _ (ns : List ℕ) (z : among 0 ns ≡ true) where
   abbrev Told : Outcome → Type 0
@@ -62,7 +57,7 @@ module _ (ns : List ℕ) (z : among 0 ns ≡ true) where
   abbrev Whole : Outcome × List ℕ × List ℕ → Type 0
   Whole x = Told (x .0)
 
-  told-sticky : (on : Bool) → Told (sticky on)
+  pub told-sticky : (on : Bool) → Told (sticky on)
   unfolding sticky
   told-sticky on = if-both Told on z z
 
@@ -117,7 +112,7 @@ module _ (ns : List ℕ) (z : among 0 ns ≡ true) where
 
   -- transfers: 7 is in the list too
   module _ (seven : among 7 ns ≡ true) where
-    guarded : (f : Found) (regs l : List ℕ) (done : Outcome × List ℕ × List ℕ) → Whole done → Whole (guardedOf f regs l done)
+    pub guarded : (f : Found) (regs l : List ℕ) (done : Outcome × List ℕ × List ℕ) → Whole done → Whole (guardedOf f regs l done)
     guarded f regs l done = guarded-both Whole f regs l (λ address. seven)
 
     told-single : (regs : List ℕ) (op : ℕ) (c : Bool) (l : List ℕ) → Whole (singleOf regs op c l)

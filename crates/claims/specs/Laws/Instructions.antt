@@ -29,23 +29,16 @@ use Rattle.misc.specs.Stops.{swiOf, bkptOf, coprocessorOf, coprocessorMoveOf}
 use Rattle.arm.specs.Turn.{effectOf}
 use Rattle.engine.specs.declared.Stepped.{Stepped}
 use Rattle.engine.specs.Step.{settledOf, blockedOf, nextOf, executedOf}
+use Rattle.claims.specs.Laws.Choices.{both, so}
 use Rattle.claims.specs.Demand1.{numberOf, among, numbersOf, passes, IsSwi, IsBkpt, IsCoprocessor, HasR15, Answers}
 use Rattle.claims.specs.Demand2.{lent, seenOf, settled}
 use Rattle.claims.specs.Laws.Families.{allows, told-effect, told-form}
-use Rattle.claims.specs.Laws.Encodings.{both, swi-is, swi-only, bkpt-only, coprocessor-only, form-only}
+use Rattle.claims.specs.Laws.Encodings.{swi-is, swi-only, bkpt-only, coprocessor-only, form-only}
 use Rattle.claims.specs.Laws.Decoding.{tables}
 use Rattle.claims.specs.Laws.Coprocessors.{move-stops, move-passes, register-moves, no-move}
 use Rattle.claims.specs.Laws.Composition.{executed-passed, executed-failed}
 
 -- ---- tests
-
-pub not-so : (b : Bool) → ¬ (b ≡ true) → b ≡ false
-not-so true h = absurd (h refl)
-not-so false h = refl
-
-pub so : (b : Bool) → ¬ (b ≡ false) → b ≡ true
-so true h = refl
-so false h = absurd (h refl)
 
 pub wrong : {a b : ℕ} → (a == b) ≡ false → a ≢ b
 wrong {a} {b} = eqb-false a b
@@ -163,7 +156,7 @@ module _ (m : Machine) (op : ℕ) (l : List ℕ) where
       ap answerOf (by-family family.Breakpoint e (tables op .conditional c .bkpt z (t, s) q))
 
   -- r15 less 8 while the instruction executes is A
-  own-address : HasR15 m → ownOf (lent m) ≡ nextOf m
+  pub own-address : HasR15 m → ownOf (lent m) ≡ nextOf m
   own-address (w, b) = rw (getD-set-same (m .regs) 15 ((nextOf m + 8) % 2 ^ 32) 0 w) (omega arith)
 
   -- either way of the condition

@@ -18,7 +18,8 @@ use Rattle.engine.specs.Step.{stepped, gatedOf, stepOf}
 use Rattle.engine.specs.Run.{endedOf, goOf, runOf}
 use Rattle.engine.specs.Laws.Kept.{step-ge-kept}
 use Rattle.claims.specs.Demand1.{numberOf, among, TooLong, Bad, after, Quiet, Ends, at-budget, at-call, at-refusal, RunKeeps}
-use Rattle.claims.specs.Laws.Instructions.{not-so, wrong, among-within}
+use Rattle.claims.specs.Laws.Choices.{not-so}
+use Rattle.claims.specs.Laws.Instructions.{wrong, among-within}
 use Rattle.claims.specs.Laws.Steps.{agree, neither, all, long-test, bad-test, done-by-number, call-by-number, step-answered}
 use Rattle.claims.specs.Laws.Lengths.{length-step}
 

@@ -18,8 +18,8 @@ use Rattle.engine.specs.Laws.Fits.{good-fits, fits-good}
 use Rattle.engine.specs.Laws.Fetch.{fetches-inside}
 use Rattle.engine.specs.Laws.AsBefore.{AsBefore, step-as-before, given-as-before}
 use Rattle.claims.specs.Demand1.{numberOf, among, InOrder, Answers, Answered, TooLong, Bad, InThumb, Unfetched, Reached, StepAnswered, GivenAnswered}
-use Rattle.claims.specs.Laws.Encodings.{both}
-use Rattle.claims.specs.Laws.Instructions.{not-so, so, wrong, others, among-within, answered, answers, call-bytes, call-machine, own}
+use Rattle.claims.specs.Laws.Choices.{both, not-so, so}
+use Rattle.claims.specs.Laws.Instructions.{wrong, others, among-within, answered, answers, call-bytes, call-machine, own}
 
 -- ---- the order, by the tests of the gate, of T and of the fetch
 
