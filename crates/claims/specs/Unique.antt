@@ -12,6 +12,8 @@ use Rattle.cpu.specs.declared.Machine.{Machine}
 use Rattle.engine.specs.declared.Stepped.{Stepped}
 use Rattle.engine.specs.declared.Finished.{Finished}
 use Rattle.engine.specs.Promises.{Steps, StepsWith, Runs}
+use Rattle.exports.specs.Calls.{packCallOf, unpackCallOf, shiftImmediateCallOf, shiftRegisterCallOf}
+use Rattle.exports.specs.Steps.{Left, stepCallOf, stepOpcodeCallOf, runCallOf}
 
 -- each promise is an equation with a value that the input gives
 same : {X : Type 0} {value r t : X} → r ≡ value → t ≡ value → r ≡ t
@@ -40,3 +42,31 @@ stepping-with-an-opcode m op l r t p q = same p q
 
 pub running : (m : Machine) (l : List ℕ) (budget : ℕ) (r t : Finished × List ℕ) → Runs m l budget r → Runs m l budget t → r ≡ t
 running m l budget r t p q = same p q
+
+-- ---- the exported calls, whose contracts (exports/src/lib.rt) are these equations
+
+pub exported-packing : (word ge r t : ℕ) → r ≡ packCallOf word ge → t ≡ packCallOf word ge → r ≡ t
+exported-packing word ge r t p q = same p q
+
+pub exported-unpacking : (word r t : ℕ) → r ≡ unpackCallOf word → t ≡ unpackCallOf word → r ≡ t
+exported-unpacking word r t p q = same p q
+
+pub exported-shift-by-immediate : (kind value amount : ℕ) (carry : Bool) (r t : ℕ)
+    → r ≡ shiftImmediateCallOf kind value amount carry → t ≡ shiftImmediateCallOf kind value amount carry → r ≡ t
+exported-shift-by-immediate kind value amount carry r t p q = same p q
+
+pub exported-shift-by-register : (kind value amount : ℕ) (carry : Bool) (r t : ℕ)
+    → r ≡ shiftRegisterCallOf kind value amount carry → t ≡ shiftRegisterCallOf kind value amount carry → r ≡ t
+exported-shift-by-register kind value amount carry r t p q = same p q
+
+-- what is returned, and the bytes of the machine, of memory and of the answer
+pub exported-step : (bytes l answer : List ℕ) (r t : Left) → r ≡ stepCallOf bytes l answer → t ≡ stepCallOf bytes l answer → r ≡ t
+exported-step bytes l answer r t p q = same p q
+
+pub exported-step-with-an-opcode : (bytes l : List ℕ) (op : ℕ) (answer : List ℕ) (r t : Left)
+    → r ≡ stepOpcodeCallOf bytes l op answer → t ≡ stepOpcodeCallOf bytes l op answer → r ≡ t
+exported-step-with-an-opcode bytes l op answer r t p q = same p q
+
+pub exported-run : (bytes l : List ℕ) (budget : ℕ) (answer : List ℕ) (r t : Left)
+    → r ≡ runCallOf bytes l budget answer → t ≡ runCallOf bytes l budget answer → r ≡ t
+exported-run bytes l budget answer r t p q = same p q
