@@ -1,9 +1,8 @@
 pub mod Cases
-pub mod Demand3
-pub mod Laws
 pub mod Unique
 pub mod Demand1
 pub mod Demand2
+pub mod Demand3
 pub mod Accesses
 pub mod Undefined
 pub mod WrongCores
