@@ -34,7 +34,7 @@ pub const KINDS: [(&str, Kind); 4] = [
     ("programs", Kind::Programs),
 ];
 
-/// A long run of random steps that goes on where it was left.
+/// A long comparison of random steps or programs that goes on where it was left, towards so many steps in all.
 pub struct Resume {
     pub file: PathBuf,
     pub total: u64,
@@ -223,24 +223,62 @@ fn compare_programs(checker: &mut Checker, options: &Options) -> Outcome {
     checker.phase = Phase::Random;
     let mut progress = Progress::new("programs", 0, options.random_cases(Kind::Programs));
     for i in 0..options.random_cases(Kind::Programs) {
-        let mut rng = Rng::stream(options.seed, i);
-        programs::check_random(checker, &source, &mut rng)
-            .map_err(|why| format!("  in program {i}\n{why}"))?;
+        check_program(checker, &source, options.seed, i)?;
         progress.tell(i + 1);
     }
     Ok(())
 }
 
-/// Random steps alone, from where the file says that they were left.
+fn check_program(checker: &mut Checker, source: &Source, seed: u64, i: u64) -> Outcome {
+    let mut rng = Rng::stream(seed, i);
+    programs::check_random(checker, source, &mut rng)
+        .map_err(|why| format!("  in program {i}\n{why}"))
+}
+
+/// Random steps or programs alone, from where the file says that they were left.
 fn resume(checker: &mut Checker, options: &Options, resume: &Resume) -> Outcome {
-    let source = Source::new();
-    let Done { seed, cases } = Done::read(&resume.file, options.seed)?;
-    println!("compare: seed {seed:#X}, {cases} random steps were equal before");
+    let done = Done::read(&resume.file, options.seed)?;
+    let (seed, steps) = (done.seed, done.steps);
+    println!("compare: seed {seed:#X}, {steps} random steps were equal before");
     checker.phase = Phase::Random;
-    let told = |cases| Done { seed, cases }.write(&resume.file);
-    in_blocks("steps", seed, cases, resume.total, told, |rng| {
+    match options.only {
+        Some(Kind::Programs) => resume_programs(checker, resume, done),
+        _ => resume_steps(checker, resume, done),
+    }
+}
+
+fn resume_steps(checker: &mut Checker, resume: &Resume, done: Done) -> Outcome {
+    let source = Source::new();
+    let told = |cases| {
+        let done = Done {
+            cases,
+            steps: cases,
+            ..done
+        };
+        done.write(&resume.file)
+    };
+    in_blocks("steps", done.seed, done.cases, resume.total, told, |rng| {
         checker.check_step(source.step(rng))
     })
+}
+
+/// How many programs pass before the file is written again.
+const PROGRAMS_AT_ONCE: u64 = 64;
+
+fn resume_programs(checker: &mut Checker, resume: &Resume, mut done: Done) -> Outcome {
+    let source = Source::new();
+    let mut progress = Progress::new("steps of programs", done.steps, resume.total);
+    let before = done.steps;
+    while done.steps < resume.total {
+        for i in done.cases..done.cases + PROGRAMS_AT_ONCE {
+            check_program(checker, &source, done.seed, i)?;
+        }
+        done.cases += PROGRAMS_AT_ONCE;
+        done.steps = before + checker.tally.runs.walked;
+        progress.tell(done.steps.min(resume.total));
+        done.write(&resume.file)?;
+    }
+    Ok(())
 }
 
 fn all(checker: &mut Checker, options: &Options) -> Outcome {
