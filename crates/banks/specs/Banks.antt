@@ -12,6 +12,7 @@ use Rattle.psr.specs.Status.{modeNumber}
 use Rattle.psr.specs.With.{withMode, withT}
 use Rattle.cpu.specs.declared.Machine.{Machine}
 use Rattle.cpu.specs.Answers.{noStatus}
+use Rattle.cpu.specs.Outcomes.{advanced}
 use Rattle.cpu.specs.With.{withRegs, withCpsr, withSpsr, withBanked, withSaved, withFiq, withUser}
 
 -- A2.3: the bank of a mode's r13 and r14 (document 01, section 1); User and System share theirs
@@ -89,6 +90,10 @@ switchedOf m new = if modeNumber (mode m) == modeNumber new then m else enteredO
 -- the saved record becomes current, its mode's banks with it (A2.6, return from an exception)
 unfoldable pub restoredOf : Machine → Machine
 restoredOf m = withCpsr (switchedOf m (m .spsr .mode)) (m .spsr)
+
+-- the machine at the next instruction
+abbrev pub onward : Machine → Machine
+onward m = withRegs m (advanced (m .regs))
 
 -- a branch in the machine's own state: T says how r15 is masked
 unfoldable pub branchedTo : Machine → ℕ → Machine

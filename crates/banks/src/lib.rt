@@ -5,7 +5,7 @@ ghost use lib.ListN.{getD, set};
 ghost use Rattle.bits.specs.Cases.{if_then_else_, _==_};
 ghost use Rattle.psr.specs.Status.{modeNumber};
 ghost use Rattle.cpu.specs.With.{withRegs, withUser, withBanked};
-ghost use Rattle.banks.specs.Banks.{bankOf, isFiq, hasSaved, r8to12, withR8to12, enteredOf, switchedOf, restoredOf, branchedTo, returnedOf, exchangedTo, userRegOf, withUserReg};
+ghost use Rattle.banks.specs.Banks.{bankOf, isFiq, hasSaved, r8to12, withR8to12, enteredOf, switchedOf, restoredOf, onward, branchedTo, returnedOf, exchangedTo, userRegOf, withUserReg};
 ghost use Rattle.banks.specs.Laws.Parts.{savedAt, takenAt};
 use cpu::Machine;
 use psr::Mode;
@@ -185,6 +185,15 @@ pub fn restore(m: Machine) -> Machine
     let mode = s.mode;
     let mut out = switch_mode(m, mode);
     out.cpsr = s;
+    out
+}
+
+pub fn move_on(m: Machine) -> Machine
+    ensures { λ r. ⌜ r ≡ onward m ⌝ }
+{
+    let next = bits::wrapping_sub(m.regs[15], 4);
+    let mut out = m;
+    out.regs[15] = next;
     out
 }
 

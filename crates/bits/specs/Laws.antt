@@ -1,4 +1,5 @@
 -- Laws that proofs cite; nothing here has to be believed.
+pub mod Bools
 pub mod Order
 pub mod Diff
 pub mod Wrap

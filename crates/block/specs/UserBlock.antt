@@ -9,16 +9,11 @@ use Rattle.memory.specs.declared.Found.the-variants.{Inside, Outside}
 use Rattle.cpu.specs.declared.Answer.{Answer}
 use Rattle.cpu.specs.declared.Answer.the-variants.{Done, Bus}
 use Rattle.cpu.specs.declared.Machine.{Machine}
-use Rattle.cpu.specs.Outcomes.{advanced}
 use Rattle.cpu.specs.With.{withRegs}
-use Rattle.banks.specs.Banks.{restoredOf, exchangedTo, userRegOf, withUserReg}
+use Rattle.banks.specs.Banks.{onward, restoredOf, exchangedTo, userRegOf, withUserReg}
 use Rattle.block.specs.declared.Plan.{Plan}
 use Rattle.block.specs.declared.Blocked.{Blocked}
 use Rattle.block.specs.Block.{planOf, foundOf, backOf, storedListOf, unlistedOf, loadedListOf, loadedOf}
-
--- the machine at the next instruction
-abbrev pub onward : Machine → Machine
-onward m = withRegs m (advanced (m .regs))
 
 -- A4.1.98 STM (2): the User bank's registers are stored; Rn is the current bank's, also where it is written back
 unfoldable pub userStoreOf : Plan → Machine → ℕ → List ℕ → Machine × List ℕ

@@ -5,7 +5,7 @@ ghost use lib.ListN.{length};
 ghost use Rattle.cpu.specs.With.{withRegs};
 ghost use Rattle.banks.specs.Banks.{userRegOf};
 ghost use Rattle.block.specs.Block.{listOf, spanOf, startOf, planOf, foundOf, backOf, unlistedOf, loadedOf, continuedOf, storeOf, loadOf, blockOf};
-ghost use Rattle.block.specs.UserBlock.{onward, userStoreOf, userLoadedOf, userLoadOf, returnLoadOf, userMovedOf, userBlockOf};
+ghost use Rattle.block.specs.UserBlock.{userStoreOf, userLoadedOf, userLoadOf, returnLoadOf, userMovedOf, userBlockOf};
 ghost use Rattle.block.specs.Laws.Loops.{Told};
 ghost use Rattle.block.specs.Laws.Sources.{sourcesOf, storedBy, Values};
 use cpu::Answer;
@@ -214,15 +214,6 @@ pub struct Blocked {
     pub answer: Answer,
 }
 
-fn move_on(m: Machine) -> Machine
-    ensures { λ r. ⌜ r ≡ onward m ⌝ }
-{
-    let next = bits::wrapping_sub(m.regs[15], 4);
-    let mut out = m;
-    out.regs[15] = next;
-    out
-}
-
 // The registers of the User bank.
 fn take_user(m: Machine) -> [u32; 16]
     ensures { λ r. ⌜ Values r (userRegOf m) 16 ⌝ }
@@ -246,7 +237,7 @@ fn store_user(m: Machine, op: u32, p: Plan, mem: &mut [u8]) -> Machine
     write_back(&mut regs, op, p);
     let mut out = m;
     out.regs = regs;
-    move_on(out)
+    banks::move_on(out)
 }
 
 // The machine after the base is written, before the words.
@@ -293,7 +284,7 @@ fn load_user(m: Machine, op: u32, p: Plan, mem: &[u8]) -> Machine
     if p.list / 32768 % 2 == 1 {
         out
     } else {
-        move_on(out)
+        banks::move_on(out)
     }
 }
 

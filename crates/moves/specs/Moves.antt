@@ -9,13 +9,8 @@ use Rattle.psr.specs.Status.{modeOf, packedOf, privileged, writtenOf}
 use Rattle.psr.specs.With.{withA, withI, withF}
 use Rattle.shifter.specs.Shifts.{immediateOf}
 use Rattle.cpu.specs.declared.Machine.{Machine}
-use Rattle.cpu.specs.Outcomes.{advanced}
 use Rattle.cpu.specs.With.{withRegs, withCpsr, withSpsr}
-use Rattle.banks.specs.Banks.{mode, switchedOf}
-
--- the machine at the next instruction
-abbrev pub onward : Machine → Machine
-onward m = withRegs m (advanced (m .regs))
+use Rattle.banks.specs.Banks.{mode, switchedOf, onward}
 
 -- A4.1.38 MRS: the packed word of the saved or the current record in Rd
 unfoldable pub mrsOf : Machine → ℕ → Machine

@@ -3,18 +3,9 @@ ghost use mathlib.Core.Path.{_≡_};
 ghost use Rattle.bits.specs.Cases.{if_then_else_};
 ghost use Rattle.psr.specs.Status.{privileged};
 ghost use Rattle.cpu.specs.With.{withCpsr, withSpsr};
-ghost use Rattle.moves.specs.Moves.{onward, mrsOf, msrValueOf, msrOf, cpsStatusOf, cpsOf, movesOf};
+ghost use Rattle.moves.specs.Moves.{mrsOf, msrValueOf, msrOf, cpsStatusOf, cpsOf, movesOf};
 use cpu::Machine;
 use psr::Status;
-
-fn move_on(m: Machine) -> Machine
-    ensures { λ r. ⌜ r ≡ onward m ⌝ }
-{
-    let next = bits::wrapping_sub(m.regs[15], 4);
-    let mut out = m;
-    out.regs[15] = next;
-    out
-}
 
 // The saved record where `saved`, else the current one.
 fn choose_record(m: Machine, saved: bool) -> Status
@@ -30,7 +21,7 @@ fn mrs(m: Machine, op: u32) -> Machine
     let p = psr::pack(s);
     let mut out = m;
     out.regs[(op / 4096 % 16) as usize] = p.word;
-    move_on(out)
+    banks::move_on(out)
 }
 
 fn msr_value(m: Machine, op: u32) -> u32
@@ -75,11 +66,11 @@ fn msr(m: Machine, op: u32) -> Machine
     let mask = op / 65536 % 16;
     if op / 4194304 % 2 == 1 {
         let s = psr::write_masked(m.spsr, value, mask, true);
-        move_on(put_saved(m, s))
+        banks::move_on(put_saved(m, s))
     } else {
         let s = psr::write_masked(m.cpsr, value, mask, is_privileged(m));
         let mode = s.mode;
-        move_on(put_current(banks::switch_mode(m, mode), s))
+        banks::move_on(put_current(banks::switch_mode(m, mode), s))
     }
 }
 
@@ -117,12 +108,12 @@ fn cps(m: Machine, op: u32) -> Machine
         let masked = put_current(m, s);
         if op / 131072 % 2 == 1 {
             let mode = psr::mode_of(op % 32);
-            move_on(banks::switch_mode(masked, mode))
+            banks::move_on(banks::switch_mode(masked, mode))
         } else {
-            move_on(masked)
+            banks::move_on(masked)
         }
     } else {
-        move_on(m)
+        banks::move_on(m)
     }
 }
 

@@ -242,3 +242,10 @@ pub fn write_masked(s: Status, value: u32, mask: u32, privileged: bool) -> Statu
     let extension = write_extension(ge, w, (mask / 2 % 2 == 1) & privileged);
     write_control(extension, w, (mask % 2 == 1) & privileged)
 }
+
+// The same on a record that is lent; what runs calls the one by value.
+pub fn write_masked_in(s: &mut Status, value: u32, mask: u32, privileged: bool)
+    ensures { λ _. ⌜ now (s .exit) ≡ writtenOf (now (s .entry)) value mask privileged ⌝ }
+{
+    *s = write_masked(*s, value, mask, privileged);
+}

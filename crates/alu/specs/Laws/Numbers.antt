@@ -13,6 +13,7 @@ use lib.Dec.{ltb, leb}
 use borrow.Author.Tests.{lt-ltb, le-ltb, le-leb, lt-leb}
 use Rattle.bits.specs.Fields.{bitOf}
 use Rattle.bits.specs.Integers.{signed, wrap}
+use Rattle.bits.specs.Laws.Bools.{bit-le}
 use Rattle.bits.specs.Laws.Order.{split, ltb-same, leb-same, or-same}
 use Rattle.bits.specs.Laws.Diff.{diff-eq, diff-pos, diff-add, diff-ltZ, pos-sub}
 use Rattle.bits.specs.Laws.Wrap.{wrap-diff, mod-both}
@@ -20,7 +21,7 @@ use Rattle.bits.specs.Laws.Signed.{lifted, twice-half, signed-low, signed-high,
 use Rattle.alu.specs.declared.Sum.{Sum}
 use Rattle.alu.specs.Sums.{sbcOf, adcOf, negative}
 use Rattle.alu.specs.Numbers.{numberOf, Pair, firsts, seconds, Words, wordsOf, lastOf, A, B, width, differ, Difference, Total}
-use Rattle.alu.specs.Laws.Sums.{bit-le, adc-law, sbc-law}
+use Rattle.alu.specs.Laws.Sums.{adc-law, sbc-law}
 
 -- what a carry of a subtraction lacks: a function of its own, so that `lack c * m` is one term for `omega`
 abbrev lack : Bool → ℕ

@@ -1,27 +1,20 @@
 -- What the code computes in u64 is the exact sum's value, carry and overflow.
-use mathlib.Core.Path.{_≡_, refl, ap, _∙_}
+use mathlib.Core.Path.{_≡_, ap, _∙_}
 use mathlib.Core.Bool.{Bool, true, false, not, _||_}
-use Prim.Native.Nat.{ℕ, _+_, _-_, _*_, _/_, _%_, _^_, _<_, _≤_}
+use Prim.Native.Nat.{ℕ, _+_, _-_, _*_, _/_, _%_, _^_, _<_}
 use native.Mathlib.Omega.{arith}
 use lib.IntN.{pos, _+ℤ_, _-ℤ_, subℕ, +ℤ-idr}
 use lib.Signed.{ltZ}
 use lib.Dec.{ltb, leb, lit<}
 use Rattle.bits.specs.Fields.{bitOf}
 use Rattle.bits.specs.Integers.{signed, wrap, outside}
+use Rattle.bits.specs.Laws.Bools.{bit-not}
 use Rattle.bits.specs.Laws.Order.{ltb-same, leb-same, or-same, not-ltb}
 use Rattle.bits.specs.Laws.Diff.{diff-add, diff-sub, diff-pos, diff-ltZ, pos-sub, diff-sub-pos, diff-add-pos}
 use Rattle.bits.specs.Laws.Wrap.{wrap-diff}
 use Rattle.bits.specs.Laws.Signed.{lifted, signed-lifted, outside-diff}
 use Rattle.alu.specs.declared.Sum.{Sum}
 use Rattle.alu.specs.Sums.{addOf, adcOf, subOf, sbcOf}
-
-pub bit-le : (c : Bool) → bitOf c ≤ 1
-bit-le true = omega arith
-bit-le false = omega arith
-
-pub bit-not : (c : Bool) → bitOf (not c) + bitOf c ≡ 1
-bit-not true = refl
-bit-not false = refl
 
 module _ (a b : ℕ) (c : Bool) (ha : a < 2 ^ 32) (hb : b < 2 ^ 32) where
   abbrev sum : ℕ

@@ -33,3 +33,8 @@ pub ones-is : (k x : ℕ) → x < 2 ^ k → ones x ≡ onesOf k x
 unfolding onesOf ones
 ones-is zero x h = let e : x ≡ 0 = omega arith in rw e refl
 ones-is (suc k) x h = ones-step x ∙ ap (λ (t : ℕ). x % 2 + t) (ones-is k (x / 2) (omega arith))
+
+pub ones-le : (k x : ℕ) → onesOf k x ≤ k
+unfolding onesOf
+ones-le zero x = omega arith
+ones-le (suc k) x = omega (arith, ones-le k (x / 2))

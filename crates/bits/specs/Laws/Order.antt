@@ -2,7 +2,7 @@
 use mathlib.Core.Path.{_≡_, refl, sym, _∙_}
 use mathlib.Core.Bool.{Bool, true, false, not, _||_}
 use mathlib.Core.Logic.{_⊎_, inl, inr, ⊎-elim}
-use Prim.Native.Nat.{ℕ, zero, suc, _≤_, _<_}
+use Prim.Native.Nat.{ℕ, zero, suc, _+_, _-_, _≤_, _<_}
 use native.Mathlib.Omega.{arith}
 use lib.Dec.{ltb, leb}
 use borrow.Author.Tests.{lt-ltb, le-ltb, le-leb, lt-leb, ltb-true, ltb-false}
@@ -41,3 +41,10 @@ apart-le (suc k) n r = let h : k ≤ n = apart-le k n (r .0) in let e : n ≡ k 
 
 pub not-ltb : (a b : ℕ) → not (ltb a b) ≡ leb b a
 not-ltb a b = ⊎-elim (λ h. rw (lt-ltb a b h, lt-leb b a h)) (λ h. rw (le-ltb a b h, le-leb b a h)) (split a b)
+
+-- a counter i on its way to n
+pub left-next : (n i : ℕ) → n - i - 1 ≡ n - (i + 1)
+left-next n i = omega arith
+
+pub left-suc : (n i : ℕ) → i < n → n - i ≡ suc (n - (i + 1))
+left-suc n i h = omega arith

@@ -3,9 +3,10 @@ use mathlib.Core.Path.{_≡_, refl, sym, _∙_, subst}
 use mathlib.Core.Logic.{⊎-elim}
 use Prim.Native.Nat.{ℕ, zero, suc, _+_, _-_, _*_, _^_, _≤_, _<_, suc-le-suc}
 use native.Mathlib.Omega.{arith}
-use native.Mathlib.Nat.{div-le-self, mul-le-mul, le-trans}
+use native.Mathlib.Nat.{div-le-self, mul-le-mul, le-trans, lt-of-le-of-lt}
 use lib.IntN.{ℤ, pos, negsuc, negℤ, _+ℤ_, _-ℤ_, _*ℤ_, subℕ, natAbs}
-use lib.Signed.{shrZ}
+use lib.Dec.{lit<}
+use lib.Signed.{shrZ, mag, mag-shr}
 use mir.Val.{toZ, ofZ, SFits}
 use mir.Facts.{toZ-ofZ, toZ-pos}
 use mir.Syntax.{w64}
@@ -78,6 +79,17 @@ fit64 {z} h l = fit64′ z (omega arith)
 pub read64 : {z : ℤ} {m : ℕ} → Within m z → m < 2 ^ 63 → toZ w64 (ofZ w64 z) ≡ z
 read64 h l = toZ-ofZ (fit64 h l)
 
+-- and within a wider bound
+pub read-within : {z : ℤ} {m n : ℕ} → Within m z → m < 2 ^ 63 → m ≤ n → Within n (toZ w64 (ofZ w64 z))
+read-within h l k = rw (read64 h l) (record { within = le-trans (h .within) k })
+
+-- what a call promises of its signed result, read back
+pub read-back : {z y : ℤ} → mag z < 2 ^ 63 → z ≡ y → toZ w64 (ofZ w64 z) ≡ y
+read-back h e = toZ-ofZ (record { sfits = h }) ∙ e
+
+pub shr-fits : (z : ℤ) (d : ℕ) → SFits w64 z → SFits w64 (shrZ z d)
+shr-fits z d h = record { sfits = lt-of-le-of-lt (mag-shr z d) (h .sfits) }
+
 -- Signed code, mirrored: t is what the logic has for a signed expression, y the integer meant, from -m to m.
 -- A node's `fit-` answers its need, its `is-` gives its value.
 pub record Is (m : ℕ) (t y : ℤ) : Type 0 where
@@ -92,6 +104,10 @@ is-call {m = m} e h l = record { same = rw e (read64 (subst (λ x. Within m x) e
 pub told : {t y : ℤ} {m : ℕ} → Is m t y → (t ≡ y) × Within m t
 told i = (i .same, rw (i .same) (i .size))
 
+-- and what a call told, taken up again
+pub heard : {z y : ℤ} {m : ℕ} → (z ≡ y) × Within m z → m < 2 ^ 63 → Is m (toZ w64 (ofZ w64 z)) y
+heard h l = is-call (h .0) (h .1) l
+
 pub fit-is : {t y : ℤ} {m : ℕ} → Is m t y → m < 2 ^ 63 → SFits w64 t
 fit-is i l = rw (i .same) (fit64 (i .size) l)
 
@@ -100,6 +116,12 @@ is-again i l = record { same = rw (i .same) (read64 (i .size) l); size = i .size
 
 pub is-nat : (n m : ℕ) → n ≤ m → m < 2 ^ 63 → Is m (toZ w64 n) (pos n)
 is-nat n m h l = record { same = toZ-pos w64 (omega arith); size = in-nat n m h }
+
+pub is-wider : {t y : ℤ} {m n : ℕ} → Is m t y → m ≤ n → Is n t y
+is-wider i l = record { same = i .same; size = record { within = le-trans (i .size .within) l } }
+
+pub is-word : (n : ℕ) → n < 2 ^ 32 → Is (2 ^ 32) (toZ w64 n) (pos n)
+is-word n h = is-nat n (2 ^ 32) (omega arith) (lit< tt)
 
 -- the two ways in which the code reads a word of k bits: as it stands, and less 2^k
 module _ (k n : ℕ) (hk : 0 < k) (hn : n < 2 ^ k) (small : 2 ^ k ≤ 2 ^ 32) where

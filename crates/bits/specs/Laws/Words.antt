@@ -22,10 +22,13 @@ word-product a b h k = mul-le-mul {n₂ = 2 ^ 32 - 1} {m₂ = 2 ^ 32 - 1} (omega
 pub join-lanes : (x : ℕ) → x < 2 ^ 32 → joinedOf (lanesOf x) ≡ x
 join-lanes x h = let e : x / 2 ^ 24 % 2 ^ 8 ≡ x / 2 ^ 24 = mod-eq-of-lt (omega arith) in rw e (omega arith)
 
+pub powers : (i j k : ℕ) → i + j ≡ k → 2 ^ i * 2 ^ j ≡ 2 ^ k
+powers i j k e = sym (pow-add 2 i j) ∙ ap (λ (n : ℕ). 2 ^ n) e
+
 -- Rotation: the word shifted left by 32 - n in 64 bits has the low n bits in its low half and the others above.
 module _ (x n : ℕ) (hx : x < 2 ^ 32) (hn : n < 32) where
   span : 2 ^ n * 2 ^ (32 - n) ≡ 2 ^ 32
-  span = let e : n + (32 - n) ≡ 32 = omega arith in sym (pow-add 2 n (32 - n)) ∙ ap (λ (i : ℕ). 2 ^ i) e
+  span = powers n (32 - n) 32 (omega arith)
 
   above : x * 2 ^ (32 - n) / 2 ^ 32 ≡ x / 2 ^ n
   above = ap (λ (m : ℕ). x * 2 ^ (32 - n) / m) (sym span) ∙ mul-div-mul-right x (2 ^ n) (pow-pos (32 - n))

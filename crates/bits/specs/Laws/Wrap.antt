@@ -11,7 +11,7 @@ use mathlib.Core.Bool.{true, false, false≢true}
 use borrow.Author.Tests.{ltb-true}
 use mir.Val.{SFits, Fits}
 use mir.Syntax.{w64}
-use lib.Pow.{pow-pos, mod-mod-pow}
+use lib.Pow.{pow-pos, mod-mod-pow, mod-pow-add, ones-split}
 use Rattle.bits.specs.Integers.{wrap}
 use Rattle.bits.specs.Laws.Order.{split}
 use Rattle.bits.specs.Laws.Diff.{diff-lt, diff-ge, pos-sub}
@@ -53,10 +53,22 @@ wrap-diff k a b r p q h e =
         ∙ mod-eq-of-lt (omega (arith, pow-pos k)) in
         rw m (omega (arith, pow-pos k))
 
--- the low half of a long number
-pub wrap-again : (z : ℤ) → wrap 64 z % 2 ^ 32 ≡ wrap 32 z
-wrap-again (pos n) = mod-mod-pow n 32 32
-wrap-again (negsuc n) = omega arith
+complement : (h d l m : ℕ) → l < m → (h + d) * m + (m - 1) - (h * m + l) ≡ m - 1 - l + d * m
+complement h d l m e = omega arith
+
+-- the low bits of a wrapped number
+pub wrap-less : (j k : ℕ) (z : ℤ) → wrap (j + k) z % 2 ^ k ≡ wrap k z
+wrap-less j k (pos n) = mod-mod-pow n j k
+wrap-less j k (negsuc n) =
+    let h : ℕ = n / 2 ^ k % 2 ^ j in
+    let d : ℕ = 2 ^ j - 1 - h in
+    let e : 2 ^ j - 1 ≡ h + d = omega (arith, mod-lt (n / 2 ^ k) (pow-pos j)) in
+    rw (ones-split j k, mod-pow-add n j k, e)
+    (mod-same ((h + d) * 2 ^ k + (2 ^ k - 1) - (h * 2 ^ k + n % 2 ^ k)) (2 ^ k - 1 - n % 2 ^ k) (2 ^ k) d (complement h d (n % 2 ^ k) (2 ^ k) (mod-lt n (pow-pos k)))
+    ∙ mod-eq-of-lt (omega (arith, pow-pos k)))
+
+pub wrap-low : (k : ℕ) (z : ℤ) → k ≤ 32 → wrap 32 z % 2 ^ k ≡ wrap k z
+wrap-low k z h = let e : (32 - k) + k ≡ 32 = omega arith in rw e at (wrap-less (32 - k) k z)
 
 -- a natural added to a wrapped number
 pub wrap-add : (k : ℕ) (z : ℤ) (n : ℕ) → (wrap k z + n) % 2 ^ k ≡ wrap k (z +ℤ pos n)
@@ -66,6 +78,10 @@ wrap-add k (negsuc m) n =
     (wrap-diff k n (suc m) (((2 ^ k - 1) - m % 2 ^ k + n) % 2 ^ k) (((2 ^ k - 1) - m % 2 ^ k + n) / 2 ^ k) (suc (m / 2 ^ k))
     (mod-lt _ (pow-pos k))
     (omega (arith, mod-lt m (pow-pos k), div-add-mod' m (2 ^ k), div-add-mod' ((2 ^ k - 1) - m % 2 ^ k + n) (2 ^ k))))
+
+-- 2^k more is the same
+pub wrap-more : (k : ℕ) (z : ℤ) → wrap k z ≡ wrap k (z +ℤ pos (2 ^ k))
+wrap-more k z = sym (mod-same (wrap k z + 2 ^ k) (wrap k z) (2 ^ k) 1 (omega arith) ∙ mod-eq-of-lt (wrap-lt k z)) ∙ wrap-add k z (2 ^ k)
 
 -- what std's wrapping subtraction of a wrapped number gives
 pub wrap-sub : (k : ℕ) (z : ℤ) (n r : ℕ) → r < 2 ^ k → (r + wrap k z) % 2 ^ k ≡ n → r ≡ wrap k (pos n -ℤ z)

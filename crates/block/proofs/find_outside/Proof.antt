@@ -1,13 +1,13 @@
 use mathlib.Core.Path.{sym}
 use borrow.Author.Needs.{needs}
-use Rattle.block.specs.Laws.Loops.{end-inside}
+use Rattle.memory.specs.Laws.Plans.{span-inside}
 use Rattle.block.proofs.find_outside.Statement.{statement}
 use Rattle.block.proofs.find_outside.Tie as tie
 
 inside : tie.Need-returns
 inside c =
     let n = c .before .before in
-    rw (← n .count-ones .ensures) (sym (end-inside _ _ 4 _ (c .if1 .taken)))
+    rw (← n .count-ones .ensures) (sym (span-inside _ _ 4 _ (c .if1 .taken)))
 
 tested : tie.Need-returns-2
 tested c = rw (c .find-outside .ensures, c .before .before .before .count-ones .ensures)

@@ -3,7 +3,7 @@ use borrow.Author.Needs.{needs}
 use borrow.Author.Tests.{ne-eqb}
 use Rattle.bits.specs.Cases.{if_then_else_, cases}
 use Rattle.block.specs.Block.{spanOf}
-use Rattle.block.specs.Laws.Lists.{ones-le}
+use Rattle.bits.specs.Laws.Count.{ones-le}
 use Rattle.block.proofs.find_span.Statement.{statement}
 use Rattle.block.proofs.find_span.Tie as tie
 

@@ -10,7 +10,7 @@ use lib.Pow.{shr-shr}
 use borrow.Author.Tests.{eq-eqb, ne-eqb, eqb-true, eqb-false}
 use Rattle.bits.specs.Cases.{if_then_else_, _==_, if-yes, if-no, if-both}
 use Rattle.bits.specs.Words.{onesOf}
-use Rattle.bits.specs.Laws.Order.{split}
+use Rattle.bits.specs.Laws.Order.{split, left-suc}
 use Rattle.bits.specs.Laws.Words.{shr-is}
 use Rattle.bits.specs.Laws.Count.{ones-is}
 use Rattle.block.specs.Block.{listedFrom, registersOf}
@@ -35,19 +35,16 @@ abbrev pub restOf : ℕ → ℕ → List ℕ
 restOf i rest = halvedFrom (16 - i) i rest
 
 module _ (i rest : ℕ) (h : i < 16) where
-  left : 16 - i ≡ suc (16 - (i + 1))
-  left = omega arith
-
   pub rest-set : rest % 2 ≡ 1 → restOf i rest ≡ i ∷ restOf (i + 1) (rest / 2)
   unfolding halvedFrom
-  rest-set b = rw left (if-yes _ _ _ (eq-eqb (rest % 2) 1 b))
+  rest-set b = rw (left-suc 16 i h) (if-yes _ _ _ (eq-eqb (rest % 2) 1 b))
 
   pub rest-clear : (rest % 2 ≡ 1 → ⊥) → restOf i rest ≡ restOf (i + 1) (rest / 2)
   unfolding halvedFrom
-  rest-clear b = rw left (if-no _ _ _ (ne-eqb (rest % 2) 1 b))
+  rest-clear b = rw (left-suc 16 i h) (if-no _ _ _ (ne-eqb (rest % 2) 1 b))
 
   pub rest-small : rest < 2 ^ (16 - i) → rest / 2 < 2 ^ (16 - (i + 1))
-  rest-small s = let p : 2 ^ (16 - i) ≡ 2 * 2 ^ (16 - (i + 1)) = rw left (omega arith) in omega arith
+  rest-small s = let p : 2 ^ (16 - i) ≡ 2 * 2 ^ (16 - (i + 1)) = rw (left-suc 16 i h) (omega arith) in omega arith
 
 -- a bit that is left belongs to one of the sixteen
 pub rest-reach : (i rest : ℕ) → rest < 2 ^ (16 - i) → 0 < rest → i < 16
@@ -78,12 +75,6 @@ count-rest list h = sym (ones-is 32 list (omega arith)) ∙ ones-is 16 list h �
 -- the count of set bits is the number of registers
 pub count-registers : (list : ℕ) → list < 2 ^ 16 → onesOf 32 list ≡ length (registersOf list)
 count-registers list h = count-rest list h ∙ ap length (sym (halved-is list))
-
--- belongs in bits
-pub ones-le : (k x : ℕ) → onesOf k x ≤ k
-unfolding onesOf
-ones-le zero x = omega arith
-ones-le (suc k) x = omega (arith, ones-le k (x / 2))
 
 -- two values for each register agree where they agree on the sixteen
 same-from : (f g : ℕ → ℕ) (list i n : ℕ) → i + n ≤ 16 → ((r : ℕ) → r < 16 → f r ≡ g r) → map f (listedFrom list i n) ≡ map g (listedFrom list i n)

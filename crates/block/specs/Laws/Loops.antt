@@ -1,28 +1,17 @@
 -- A transfer a register at a time.
 use mathlib.Core.Path.{_≡_, refl, ap, _∙_}
 use mathlib.Core.List.{List, [], _∷_, map}
-use Prim.Native.Nat.{ℕ, zero, suc, _+_, _-_, _*_, _/_, _%_, _^_, _≤_, _<_}
+use Prim.Native.Nat.{ℕ, suc, _+_, _-_, _/_, _%_, _^_, _≤_, _<_}
 use native.Mathlib.Omega.{arith}
-use native.Mathlib.Nat.{mul-suc}
 use lib.ListN.{length}
-use borrow.Author.Tests.{le-ltb}
-use Rattle.bits.specs.Cases.{if-no}
 use Rattle.memory.specs.Bytes.{wordAt, putWord}
-use Rattle.memory.specs.Plans.{accessesOf, firstOut, outsideOf, wordsAt, putWords, storedOf}
+use Rattle.memory.specs.Plans.{accessesOf, outsideOf, wordsAt, putWords, storedOf}
 use Rattle.memory.specs.Laws.Plans.{inside-next}
 use Rattle.memory.specs.Laws.Bytes.{length-word}
 use Rattle.memory.specs.declared.Found.the-variants.{Inside}
 use Rattle.block.specs.declared.Plan.{Plan}
 use Rattle.block.specs.Block.{foundOf, storedListOf, putEach, loadedListOf}
 use Rattle.block.specs.Laws.Lists.{restOf, halved-is, rest-set, rest-clear, rest-small, rest-reach, rest-none, count-rest}
-
--- belongs in memory: a run whose end lies inside lies inside
-pub end-inside : (len at width n : ℕ) → at + width * n ≤ len → outsideOf len at width n ≡ Inside
-unfolding accessesOf firstOut
-end-inside len at width zero h = refl
-end-inside len at width (suc n) h =
-    let k : at + width ≤ len = omega (arith, mul-suc width n) in
-    if-no _ _ _ (le-ltb len (at + width) k) ∙ end-inside len ((at + width) % 2 ^ 32) width n (omega (arith, mul-suc width n))
 
 -- what a transfer requires of its plan
 abbrev pub Told : Plan → ℕ → Type 0

@@ -1,6 +1,6 @@
 -- The registers as STM stores them, as one array.
 use mathlib.Core.Path.{_≡_, refl, sym, ap, _∙_}
-use mathlib.Core.Bool.{Bool, true, false, _&&_}
+use mathlib.Core.Bool.{Bool, true, false, _&&_, and-false}
 use mathlib.Core.List.{List}
 use Prim.Native.Nat.{ℕ, _+_, _%_, _^_, _<_}
 use native.Mathlib.Omega.{arith}
@@ -36,10 +36,6 @@ values-next values source n v k e h r b = go (r == n) refl
 pub stored-values : (p : Plan) (source : ℕ → ℕ) (values l : List ℕ) → Values values source 16 → storedBy p values l ≡ storedListOf p source l
 stored-values p source values l h =
     ap (storedOf l (p .start) (countOf (p .list))) (same-registers (λ r. getD values r 0) source (p .list) h)
-
-and-false : (b : Bool) → (b && false) ≡ false
-and-false true = refl
-and-false false = refl
 
 module _ (p : Plan) (regs : List ℕ) (op : ℕ) (sixteen : length regs ≡ 16) where
   based : List ℕ

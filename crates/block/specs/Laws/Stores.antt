@@ -10,8 +10,7 @@ use Rattle.memory.specs.Laws.Plans.{length-accesses, byte-words}
 use Rattle.memory.specs.declared.Found.{Found}
 use Rattle.memory.specs.declared.Found.the-variants.{Inside, Outside}
 use Rattle.cpu.specs.declared.Machine.{Machine}
-use Rattle.cpu.specs.declared.Outcome.{Outcome}
-use Rattle.transfer.specs.Laws.Guards.{guarded-both}
+use Rattle.transfer.specs.Laws.Guards.{Untouched, guarded-untouched}
 use Rattle.block.specs.declared.Plan.{Plan}
 use Rattle.block.specs.Block.{planOf, countOf, storedListOf, storeOf, loadOf, blockOf}
 use Rattle.block.specs.UserBlock.{userStoreOf, userMovedOf, userGuardedOf, userBlockOf}
@@ -28,9 +27,9 @@ stored-untouched p source l b h =
 pub block-untouched : (regs : List ℕ) (op : ℕ) (l : List ℕ) (b : ℕ) → Beyond (planOf regs op) b → getD (blockOf regs op l .2) b 0 ≡ getD l b 0
 unfolding blockOf storeOf loadOf
 block-untouched regs op l b h =
-    if-both (λ (x : Outcome × List ℕ × List ℕ). getD (x .2) b 0 ≡ getD l b 0) _ refl
-    (guarded-both (λ (x : Outcome × List ℕ × List ℕ). getD (x .2) b 0 ≡ getD l b 0) _ regs l (λ a. refl)
-    (if-both (λ (x : Outcome × List ℕ × List ℕ). getD (x .2) b 0 ≡ getD l b 0) _ refl (stored-untouched (planOf regs op) _ l b h)))
+    if-both (Untouched l b) _ refl
+    (guarded-untouched _ regs l b _
+    (if-both (Untouched l b) _ refl (stored-untouched (planOf regs op) _ l b h)))
 
 module _ (m : Machine) (op : ℕ) (l : List ℕ) (b : ℕ) where
   moved-untouched : (p : Plan) → Beyond p b → getD (userMovedOf p m op l .1) b 0 ≡ getD l b 0
@@ -40,12 +39,12 @@ module _ (m : Machine) (op : ℕ) (l : List ℕ) (b : ℕ) where
       (if-both (λ (x : Machine × List ℕ). getD (x .1) b 0 ≡ getD l b 0) _ refl refl)
       (stored-untouched p _ l b h)
 
-  guarded-untouched : (f : Found) (done : Machine × List ℕ) → getD (done .1) b 0 ≡ getD l b 0 → getD (userGuardedOf f m l done .1) b 0 ≡ getD l b 0
+  user-guarded : (f : Found) (done : Machine × List ℕ) → getD (done .1) b 0 ≡ getD l b 0 → getD (userGuardedOf f m l done .1) b 0 ≡ getD l b 0
   unfolding userGuardedOf
-  guarded-untouched Inside done h = h
-  guarded-untouched (Outside a) done h = refl
+  user-guarded Inside done h = h
+  user-guarded (Outside a) done h = refl
 
   -- with S
   pub user-untouched : Beyond (planOf (m .regs) op) b → getD (userBlockOf m op l .1) b 0 ≡ getD l b 0
   unfolding userBlockOf
-  user-untouched h = guarded-untouched _ _ (moved-untouched (planOf (m .regs) op) h)
+  user-untouched h = user-guarded _ _ (moved-untouched (planOf (m .regs) op) h)

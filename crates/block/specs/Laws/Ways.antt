@@ -10,16 +10,11 @@ use Rattle.cpu.specs.declared.Outcome.{Outcome}
 use Rattle.cpu.specs.declared.Machine.{Machine}
 use Rattle.cpu.specs.declared.Answer.the-variants.{Done, Bus}
 use Rattle.cpu.specs.Outcomes.{stops}
-use Rattle.transfer.specs.Transfers.{guardedOf, beside}
+use Rattle.transfer.specs.Transfers.{guardedOf}
 use Rattle.block.specs.declared.Plan.{Plan}
 use Rattle.block.specs.declared.Blocked.{Blocked}
 use Rattle.block.specs.Block.{planOf, foundOf, storeOf, loadOf, blockOf}
 use Rattle.block.specs.UserBlock.{userMovedOf, blocked, userGuardedOf, userBlockOf}
-
--- an outcome on registers, with memory beside it
-pub besides : {o : Outcome} {regs : List ℕ} {x : Outcome × List ℕ} (l : List ℕ) → _≡_ {A = Outcome × List ℕ} (o, regs) x
-    → _≡_ {A = Outcome × List ℕ × List ℕ} (o, regs, l) (beside x l)
-besides l e = ap (λ (x : Outcome × List ℕ). beside x l) e
 
 module _ (regs : List ℕ) (op : ℕ) {p : Plan} (l : List ℕ) (e : p ≡ planOf regs op) (s : op / 2 ^ 22 % 2 ≡ 1 → ⊥) where
   pub loads : {x : Outcome × List ℕ × List ℕ} → foundOf p (length l) ≡ Inside → op / 2 ^ 20 % 2 ≡ 1 → x ≡ loadOf p regs op l → x ≡ blockOf regs op l

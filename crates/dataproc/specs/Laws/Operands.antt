@@ -1,6 +1,6 @@
 -- The second operand in the code's order of tests.
-use mathlib.Core.Path.{_≡_, refl}
-use mathlib.Core.Bool.{Bool, true, false, _&&_}
+use mathlib.Core.Path.{_≡_}
+use mathlib.Core.Bool.{Bool, true, false, and-false}
 use mathlib.Core.List.{List}
 use Prim.Native.Nat.{ℕ, _/_, _%_, _^_}
 use native.Mathlib.Omega.{arith}
@@ -11,10 +11,6 @@ use Rattle.bits.specs.Fields.{_⟨_⟩, _⟨_‥_⟩}
 use Rattle.shifter.specs.declared.Operand.{Operand}
 use Rattle.shifter.specs.Shifts.{operand, typeOf, byImmediateOf, byRegisterOf}
 use Rattle.dataproc.specs.Dataproc.{readOf, operandOf}
-
-and-false : (b : Bool) → (b && false) ≡ false
-and-false true = refl
-and-false false = refl
 
 pub read-early : (regs : List ℕ) (r : ℕ) → readOf regs r false ≡ getD regs r 0
 unfolding readOf if_then_else_

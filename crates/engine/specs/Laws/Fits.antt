@@ -1,75 +1,20 @@
 -- GE stays within four bits in all seven status records, through bank switches, returns and moves of status words.
-use mathlib.Core.Path.{_≡_, refl, sym}
-use mathlib.Core.Bool.{Bool, true, false, not, _||_, false≢true}
+use mathlib.Core.Bool.{Bool}
 use mathlib.Core.List.{List, [], _∷_}
 use Prim.Native.Nat.{ℕ, zero, suc, _≤_, _<_}
 use native.Mathlib.Omega.{arith}
 use lib.ListN.{getD, set}
-use borrow.Author.Tests.{le-ltb, ltb-false}
 use Rattle.bits.specs.Cases.{if_then_else_, if-both}
 use Rattle.psr.specs.declared.Status.{Status}
 use Rattle.psr.specs.declared.Mode.{Mode}
 use Rattle.psr.specs.declared.Mode.the-variants.{User, Fiq, Irq, Supervisor, Abort, Undefined, System}
 use Rattle.psr.specs.Status.{writtenOf}
 use Rattle.cpu.specs.declared.Machine.{Machine}
-use Rattle.cpu.specs.Answers.{badOf, noStatus}
+use Rattle.cpu.specs.Answers.{noStatus}
+use Rattle.cpu.specs.Laws.Fits.{Fits, AllFit}
 use Rattle.cpu.specs.With.{withRegs, withCpsr, withSpsr}
 use Rattle.banks.specs.Banks.{bankOf, savedKept, spsrTaken, enteredOf, switchedOf, restoredOf, branchedTo, returnedOf, exchangedTo, withUserReg}
 use Rattle.moves.specs.Moves.{mrsOf, msrOf, cpsStatusOf, cpsOf, movesOf}
-
-abbrev pub Fits : Status → Type 0
-Fits s = s .ge ≤ 15
-
--- the seven records of a machine
-pub record AllFit (m : Machine) : Type 0 where
-  pub current : Fits (m .cpsr)
-  pub saved : Fits (m .spsr)
-  pub banked : (i : ℕ) → i < 5 → Fits (getD (m .saved) i noStatus)
-
-or-false : (a b : Bool) → (a || b) ≡ false → (a ≡ false) × (b ≡ false)
-or-false true b e = absurd (false≢true (sym e))
-or-false false b e = (refl, e)
-
-module _ (m : Machine) where
-  abbrev at : ℕ → ℕ
-  at i = getD (m .saved) i noStatus .ge
-
-  -- what a machine that does not earn answer 8 has
-  pub good-fits : badOf m ≡ false → AllFit m
-  unfolding badOf
-  good-fits e =
-      let e6 = or-false _ _ e in
-      let e5 = or-false _ _ (e6 .0) in
-      let e4 = or-false _ _ (e5 .0) in
-      let e3 = or-false _ _ (e4 .0) in
-      let e2 = or-false _ _ (e3 .0) in
-      let e1 = or-false _ _ (e2 .0) in
-      record {
-        current = ltb-false 15 _ (e1 .0);
-        saved = ltb-false 15 _ (e1 .1);
-        banked = five (ltb-false 15 _ (e2 .1)) (ltb-false 15 _ (e3 .1)) (ltb-false 15 _ (e4 .1)) (ltb-false 15 _ (e5 .1)) (ltb-false 15 _ (e6 .1));
-      }
-    where
-      five : at 0 ≤ 15 → at 1 ≤ 15 → at 2 ≤ 15 → at 3 ≤ 15 → at 4 ≤ 15 → (i : ℕ) → i < 5 → at i ≤ 15
-      five a b c d e zero h = a
-      five a b c d e (suc zero) h = b
-      five a b c d e (suc (suc zero)) h = c
-      five a b c d e (suc (suc (suc zero))) h = d
-      five a b c d e (suc (suc (suc (suc zero)))) h = e
-      five a b c d e (suc (suc (suc (suc (suc i))))) h = absurd (omega arith)
-
-  pub fits-good : AllFit m → badOf m ≡ false
-  unfolding badOf
-  fits-good f =
-      rw (
-        le-ltb 15 _ (f .current),
-        le-ltb 15 _ (f .saved),
-        le-ltb 15 _ (f .banked 0 (omega arith)),
-        le-ltb 15 _ (f .banked 1 (omega arith)),
-        le-ltb 15 _ (f .banked 2 (omega arith)),
-        le-ltb 15 _ (f .banked 3 (omega arith)),
-        le-ltb 15 _ (f .banked 4 (omega arith)),
-      )
 
 -- an element of a list after a store is the one that was stored or the one before
 set-either : (P : Status → Type 0) (l : List Status) (b i : ℕ) (s d : Status) → P s → P (getD l i d) → P (getD (set l b s) i d)

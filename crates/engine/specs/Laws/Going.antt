@@ -3,9 +3,10 @@ use mathlib.Core.Path.{_≡_}
 use mathlib.Core.Bool.{true, false}
 use mathlib.Core.List.{List}
 use native.Mathlib.Omega.{arith}
-use Prim.Native.Nat.{ℕ, suc, _+_, _-_, _<_, _≤_}
+use Prim.Native.Nat.{ℕ, _+_, _-_, _<_, _≤_}
 use Rattle.bits.specs.Cases.{if_then_else_}
 use Rattle.bits.specs.Fields.{bitOf}
+use Rattle.bits.specs.Laws.Order.{left-suc}
 use Rattle.cpu.specs.declared.Machine.{Machine}
 use Rattle.cpu.specs.declared.Answer.the-variants.{Timeout}
 use Rattle.cpu.specs.Answers.{isDone, isCall}
@@ -13,20 +14,17 @@ use Rattle.engine.specs.declared.Stepped.{Stepped}
 use Rattle.engine.specs.Step.{stepped, gatedOf, stepOf}
 use Rattle.engine.specs.Run.{endedOf, goOf}
 
-left-suc : {n i : ℕ} → i < n → n - i ≡ suc (n - (i + 1))
-left-suc {n} {i} h = omega arith
-
 pub go-on : (n k : ℕ) (m : Machine) (l : List ℕ) {s : Stepped} {l′ : List ℕ} → k < n
     → (let p : Stepped × List ℕ = (s, l′) in p) ≡ stepOf m l → isDone (s .answer) ≡ true
     → goOf (n - k) k m l ≡ goOf (n - (k + 1)) (k + 1) (s .machine) l′
 unfolding goOf if_then_else_
-go-on n k m l h e d = rw (left-suc h, ← e, d)
+go-on n k m l h e d = rw (left-suc n k h, ← e, d)
 
 pub go-stop : (n k : ℕ) (m : Machine) (l : List ℕ) {s : Stepped} {l′ : List ℕ} → k < n
     → (let p : Stepped × List ℕ = (s, l′) in p) ≡ stepOf m l → isDone (s .answer) ≡ false
     → goOf (n - k) k m l ≡ endedOf (k + bitOf (isCall (s .answer))) (s, l′)
 unfolding goOf if_then_else_
-go-stop n k m l h e d = rw (left-suc h, ← e, d)
+go-stop n k m l h e d = rw (left-suc n k h, ← e, d)
 
 pub go-none : (n k : ℕ) (m : Machine) (l : List ℕ) → n ≤ k → goOf (n - k) k m l ≡ endedOf k (gatedOf m l (stepped m Timeout, l))
 unfolding goOf

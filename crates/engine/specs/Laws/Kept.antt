@@ -22,7 +22,8 @@ use Rattle.arm.specs.Turn.{seen}
 use Rattle.arm.specs.Laws.Sound.{sound-turn}
 use Rattle.engine.specs.declared.Stepped.{Stepped}
 use Rattle.engine.specs.Step.{settledOf, blockedOf, nextOf, turnedOf, executedOf, takenOf, givenOf, gatedOf, stepOf, stepWithOf}
-use Rattle.engine.specs.Laws.Fits.{AllFit, good-fits, fits-good, regs-fit, current-fit, restored-fit, returned-fit, exchanged-fit, user-reg-fit, moves-fit}
+use Rattle.cpu.specs.Laws.Fits.{AllFit, good-fits, fits-good}
+use Rattle.engine.specs.Laws.Fits.{regs-fit, current-fit, restored-fit, returned-fit, exchanged-fit, user-reg-fit, moves-fit}
 
 abbrev FitsAfter : Machine × List ℕ → Type 0
 FitsAfter x = AllFit (x .0)

@@ -1,7 +1,6 @@
 use mathlib.Core.Path.{refl}
 use lib.Dec.{lit<}
-use Rattle.bits.specs.Laws.Range.{is-call, fit-add, is-add}
-use Rattle.lanes.specs.Laws.Lanes.{is-word}
+use Rattle.bits.specs.Laws.Range.{is-call, fit-add, is-add, is-word}
 use borrow.Author.Needs.{needs}
 use Rattle.lanes.proofs.accumulate.Statement.{statement}
 use Rattle.lanes.proofs.accumulate.Tie as tie

@@ -1,22 +1,21 @@
 use Prim.Native.Nat.{_/_, _%_}
 use lib.Dec.{lit<, lit≤}
 use native.Mathlib.Omega.{arith}
-use Rattle.bits.specs.Laws.Range.{is-nat, told}
+use Rattle.bits.specs.Laws.Range.{is-nat, told, read-back, read-within}
 use Rattle.lanes.specs.Packing.{addedOf}
-use Rattle.lanes.specs.Laws.Lanes.{read-back, read-within}
 use borrow.Author.Needs.{needs}
 use Rattle.lanes.proofs.add_extended.Statement.{statement}
 use Rattle.lanes.proofs.add_extended.Tie as tie
 
 accumulate-halves-requires : tie.Need-accumulate-halves-requires
 accumulate-halves-requires c κs =
-    (read-within 65536 (c .before .signed-byte .ensures .1) (lit≤ tt) (lit< tt), read-within 65536 (c .signed-byte2 .ensures .1) (lit≤ tt) (lit< tt))
+    (read-within (c .before .signed-byte .ensures .1) (lit< tt) (lit≤ tt), read-within (c .signed-byte2 .ensures .1) (lit< tt) (lit≤ tt))
 
 accumulate-requires : tie.Need-accumulate-requires
-accumulate-requires c κs = (lit≤ tt, read-within 65536 (c .signed-byte3 .ensures .1) (lit≤ tt) (lit< tt))
+accumulate-requires c κs = (lit≤ tt, read-within (c .signed-byte3 .ensures .1) (lit< tt) (lit≤ tt))
 
 accumulate-requires-2 : tie.Need-accumulate-requires-2
-accumulate-requires-2 c κs = (lit≤ tt, read-within 65536 (c .signed-half .ensures .1) (lit≤ tt) (lit< tt))
+accumulate-requires-2 c κs = (lit≤ tt, read-within (c .signed-half .ensures .1) (lit< tt) (lit≤ tt))
 
 accumulate-halves-requires-2 : tie.Need-accumulate-halves-requires-2
 accumulate-halves-requires-2 c κs =

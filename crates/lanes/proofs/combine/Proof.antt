@@ -1,5 +1,5 @@
 use Rattle.lanes.specs.Parallel.{laneOf}
-use Rattle.lanes.specs.Laws.Lanes.{read-back}
+use Rattle.bits.specs.Laws.Range.{read-back}
 use borrow.Author.Needs.{needs}
 use Rattle.lanes.proofs.combine.Statement.{statement}
 use Rattle.lanes.proofs.combine.Tie as tie

@@ -1,5 +1,5 @@
 use borrow.Author.Needs.{needs}
-use Rattle.lanes.specs.Laws.Lanes.{read-back}
+use Rattle.bits.specs.Laws.Range.{read-back}
 use Rattle.lanes.proofs.combine_signed.Statement.{statement}
 use Rattle.lanes.proofs.combine_signed.Tie as tie
 

@@ -1,5 +1,4 @@
-use Rattle.bits.specs.Laws.Range.{told}
-use Rattle.lanes.specs.Laws.Lanes.{read-back, is-word}
+use Rattle.bits.specs.Laws.Range.{told, read-back, is-word}
 use borrow.Author.Needs.{needs}
 use Rattle.lanes.proofs.combine_unsigned.Statement.{statement}
 use Rattle.lanes.proofs.combine_unsigned.Tie as tie

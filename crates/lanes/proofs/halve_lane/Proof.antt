@@ -1,6 +1,6 @@
 use mir.Facts.{toZ-ofZ}
 use borrow.Author.Needs.{needs}
-use Rattle.lanes.specs.Laws.Lanes.{shr-fits}
+use Rattle.bits.specs.Laws.Range.{shr-fits}
 use Rattle.lanes.proofs.halve_lane.Statement.{statement}
 use Rattle.lanes.proofs.halve_lane.Tie as tie
 

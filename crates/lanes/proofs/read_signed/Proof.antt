@@ -8,7 +8,7 @@ use Rattle.lanes.proofs.read_signed.Tie as tie
 sub-result : tie.Need-sub-result
 sub-result c =
     let s = c .before .before .before in
-    fit-is (is-high (s .args .width) (s .args .x) (s .pre .0) (s .pre .2) (c .power2 .result) (s .pre .1) (c .power2 .ensures .0) (rw (c .before .before .power .ensures .0) at (c .before .if1 .left))) (lit< tt)
+    fit-is (is-high (s .args .width) (s .args .x) (s .pre .0) (s .pre .2) (s .pre .1) (c .power2 .result) (c .power2 .ensures .0) (rw (c .before .before .power .ensures .0) at (c .before .if1 .left))) (lit< tt)
 
 returns : tie.Need-returns
 returns c =
@@ -18,7 +18,7 @@ returns c =
 returns-2 : tie.Need-returns-2
 returns-2 c =
     let s = c .before .before .before in
-    told (is-again (is-high (s .args .width) (s .args .x) (s .pre .0) (s .pre .2) (c .power2 .result) (s .pre .1) (c .power2 .ensures .0) (rw (c .before .before .power .ensures .0) at (c .before .if1 .left))) (lit< tt))
+    told (is-again (is-high (s .args .width) (s .args .x) (s .pre .0) (s .pre .2) (s .pre .1) (c .power2 .result) (c .power2 .ensures .0) (rw (c .before .before .power .ensures .0) at (c .before .if1 .left))) (lit< tt))
 
 pub read-signed-spec : {M : Type 1} → statement M
 read-signed-spec =

@@ -1,6 +1,6 @@
 use mir.Facts.{toZ-ofZ}
 use borrow.Author.Needs.{needs}
-use Rattle.lanes.specs.Laws.Lanes.{wrap-low}
+use Rattle.bits.specs.Laws.Wrap.{wrap-low}
 use Rattle.lanes.proofs.wrap_bits.Statement.{statement}
 use Rattle.lanes.proofs.wrap_bits.Tie as tie
 

@@ -9,10 +9,10 @@ use lib.ListN.{getD}
 use Rattle.bits.specs.Cases.{if_then_else_, if-yes, if-both}
 use Rattle.bits.specs.Fields.{_⟨_⟩}
 use Rattle.memory.specs.Bytes.{Width, putWord}
-use Rattle.memory.specs.Laws.Bytes.{Clear, byte-untouched, byte-word}
+use Rattle.memory.specs.Laws.Bytes.{Clear, byte-width, half-width, word-width, byte-untouched, byte-word}
 use Rattle.cpu.specs.declared.Outcome.{Outcome}
 use Rattle.transfer.specs.Transfers.{movedOf, addressOf}
-use Rattle.transfer.specs.Laws.Guards.{guarded-both}
+use Rattle.transfer.specs.Laws.Guards.{Untouched, guarded-both, guarded-untouched}
 use Rattle.loadstore.specs.Single.{offsetOf, widthOf, rdOf, singleAt, singleOf}
 use Rattle.loadstore.specs.Extra.{nextOf, extraOffsetOf, extraLoadOf, extraLoadsOf, strhOf, ldrdOf, strdOf, extraAt, extraOf}
 
@@ -25,21 +25,18 @@ extraAddressOf regs op = addressOf regs op (movedOf regs op (extraOffsetOf regs 
 
 width-is : (op : ℕ) → Width (widthOf op)
 unfolding widthOf
-width-is op = if-both Width _ (omega arith, omega arith, λ e. omega arith) (omega arith, omega arith, λ e. omega arith)
+width-is op = if-both Width _ byte-width word-width
 
--- memory is what it was; and byte b alone is
+-- memory is what it was
 abbrev Kept : List ℕ → Outcome × List ℕ × List ℕ → Type 0
 Kept l x = x .2 ≡ l
 
-abbrev Same : List ℕ → ℕ → Outcome × List ℕ × List ℕ → Type 0
-Same l b x = getD (x .2) b 0 ≡ getD l b 0
-
 module _ (regs : List ℕ) (op : ℕ) (l : List ℕ) (moved address : ℕ) where
-  same-single : (b : ℕ) → Clear address (widthOf op) b → Same l b (singleAt regs op l moved address)
+  same-single : (b : ℕ) → Clear address (widthOf op) b → Untouched l b (singleAt regs op l moved address)
   unfolding singleAt
   same-single b h =
-      guarded-both (Same l b) _ regs l (λ a. refl)
-      (if-both (Same l b) _ refl (byte-untouched l address (widthOf op) _ (width-is op) b h))
+      guarded-untouched _ regs l b _
+      (if-both (Untouched l b) _ refl (byte-untouched l address (widthOf op) _ (width-is op) b h))
 
   kept-single : op ⟨ 20 ⟩ ≡ true → singleAt regs op l moved address .2 ≡ l
   unfolding singleAt if_then_else_
@@ -53,24 +50,24 @@ module _ (regs : List ℕ) (op : ℕ) (l : List ℕ) (moved address : ℕ) where
 
   pub strh-untouched : (b : ℕ) → Clear address 2 b → getD (strhOf regs op l moved address .2) b 0 ≡ getD l b 0
   strh-untouched b h =
-      guarded-both (Same l b) _ regs l (λ a. refl) (byte-untouched l address 2 _ (omega arith, omega arith, λ e. omega arith) b h)
+      guarded-untouched _ regs l b _ (byte-untouched l address 2 _ half-width b h)
 
   pub strd-untouched : (b : ℕ) → Clear address 4 b → Clear (nextOf address) 4 b → getD (strdOf regs op l moved address .2) b 0 ≡ getD l b 0
   strd-untouched b h k =
-      guarded-both (Same l b) _ regs l (λ a. refl)
+      guarded-untouched _ regs l b _
       (byte-word (putWord l address (getD regs (rdOf op) 0)) (nextOf address) _ b k ∙ byte-word l address _ b h)
 
   pub loads-untouched : extraLoadsOf regs op l moved address .2 ≡ l
   unfolding extraLoadsOf
   loads-untouched = if-both (Kept l) _ (load-untouched 2 _) (if-both (Kept l) _ (load-untouched 1 _) (load-untouched 2 _))
 
-  same-extra : (b : ℕ) → Clear address 4 b → Clear (nextOf address) 4 b → Same l b (extraAt regs op l moved address)
+  same-extra : (b : ℕ) → Clear address 4 b → Clear (nextOf address) 4 b → Untouched l b (extraAt regs op l moved address)
   unfolding extraAt
   same-extra b h k =
       let n : Clear address 2 b = ⊎-elim (λ x. inl x) (λ x. inr (omega arith)) h in
-      if-both (Same l b) _ refl
-      (if-both (Same l b) _ (rw loads-untouched)
-      (if-both (Same l b) _ (strh-untouched b n) (if-both (Same l b) _ refl (if-both (Same l b) _ (rw ldrd-untouched) (strd-untouched b h k)))))
+      if-both (Untouched l b) _ refl
+      (if-both (Untouched l b) _ (rw loads-untouched)
+      (if-both (Untouched l b) _ (strh-untouched b n) (if-both (Untouched l b) _ refl (if-both (Untouched l b) _ (rw ldrd-untouched) (strd-untouched b h k)))))
 
   kept-extra : op ⟨ 20 ⟩ ≡ true → extraAt regs op l moved address .2 ≡ l
   unfolding extraAt

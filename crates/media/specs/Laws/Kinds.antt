@@ -7,42 +7,12 @@ use Prim.Native.Nat.{ℕ, _≤_}
 use native.Mathlib.Omega.{arith}
 use lib.ListN.{length, set, length-set}
 use Rattle.bits.specs.Cases.{if_then_else_, if-both}
-use Rattle.bits.specs.Fields.{bitOf}
-use Rattle.lanes.specs.declared.Variant.{Variant}
-use Rattle.lanes.specs.declared.Operation.{Operation}
-use Rattle.lanes.specs.declared.Operation.the-variants.{Add16, Asx, Sax, Sub16, Add8, Sub8}
-use Rattle.lanes.specs.declared.Lane.{Lane}
 use Rattle.lanes.specs.declared.Combined.{Combined}
-use Rattle.lanes.specs.Parallel.{geOf, halvesOf, bytesOf, bytewiseOf, parallelOf}
+use Rattle.lanes.specs.Laws.Ge.{parallel-ge}
 use Rattle.cpu.specs.declared.Kind.the-variants as kind
 use Rattle.cpu.specs.declared.Outcome.{Outcome}
 use Rattle.cpu.specs.Outcomes.{sticky, advanced, putOf, undefinedOf}
 use Rattle.media.specs.Media.{combinedOf, parallelFamilyOf, packedOf, saturateOf, saturate16Of, extendFamilyOf, reversalOf, packingOf, dualWordOf, mostWordOf, dualMultiplyOf, usadOf, mediaOf}
-
-bit-small : (b : Bool) → bitOf b ≤ 1
-bit-small true = omega arith
-bit-small false = omega arith
-
-ge-small : (a b c d : Bool) → geOf a b c d ≤ 15
-ge-small a b c d = omega (arith, bit-small a, bit-small b, bit-small c, bit-small d)
-
-halves-ge : (v : Variant) (low high : Lane) → halvesOf v low high .ge ≤ 15
-unfolding halvesOf
-halves-ge v low high = ge-small (low .ge) (low .ge) (high .ge) (high .ge)
-
-bytes-ge : (v : Variant) (a b c d : Lane) → bytesOf v a b c d .ge ≤ 15
-unfolding bytesOf
-bytes-ge v a b c d = ge-small (a .ge) (b .ge) (c .ge) (d .ge)
-
--- belongs in lanes
-pub parallel-ge : (v : Variant) (o : Operation) (n m : List ℕ) → parallelOf v o n m .ge ≤ 15
-unfolding parallelOf bytewiseOf
-parallel-ge v Add16 n m = halves-ge v _ _
-parallel-ge v Asx n m = halves-ge v _ _
-parallel-ge v Sax n m = halves-ge v _ _
-parallel-ge v Sub16 n m = halves-ge v _ _
-parallel-ge v Add8 n m = bytes-ge v _ _ _ _
-parallel-ge v Sub8 n m = bytes-ge v _ _ _ _
 
 module _ (regs : List ℕ) (op : ℕ) where
   -- what can be left: nothing, Q, GE of four bits, or the refusal of an undefined code, with the registers as they came

@@ -85,6 +85,15 @@ number-lt l at (suc n) b =
     let e : 8 * suc n ≡ 8 * n + 8 = omega arith in
     rw (e, pow-add 2 (8 * n) 8) (omega (arith, b at, number-lt l (at + 1) n b))
 
+pub byte-width : Width 1
+byte-width = (omega arith, omega arith, λ e. omega arith)
+
+pub half-width : Width 2
+half-width = (omega arith, omega arith, λ e. omega arith)
+
+pub word-width : Width 4
+word-width = (omega arith, omega arith, λ e. omega arith)
+
 -- the three widths are instances
 by-width : (P : ℕ → Type 0) → P 1 → P 2 → P 4 → (w : ℕ) → Width w → P w
 by-width P a b d zero h = absurd (omega arith)
@@ -131,30 +140,27 @@ pub read-lt : (l : List ℕ) (at w : ℕ) → Width w → Bytes l → readOf l a
 read-lt l at w h b = rw (read-is l at w h) (number-lt l at w b)
 
 -- words, with which transfers of several go
-wide : Width 4
-wide = (omega arith, omega arith, λ e. omega arith)
-
 module _ (l : List ℕ) (at v : ℕ) where
   pub length-word : length (putWord l at v) ≡ length l
   unfolding writtenOf if_then_else_
-  length-word = length-written l at 4 v wide
+  length-word = length-written l at 4 v word-width
 
   pub byte-word : (b : ℕ) → Clear at 4 b → getD (putWord l at v) b 0 ≡ getD l b 0
   unfolding writtenOf if_then_else_
-  byte-word = byte-untouched l at 4 v wide
+  byte-word = byte-untouched l at 4 v word-width
 
   pub bytes-word : Bytes l → Bytes (putWord l at v)
   unfolding writtenOf if_then_else_
-  bytes-word = bytes-written l at 4 v wide
+  bytes-word = bytes-written l at 4 v word-width
 
   pub word-same : at + 4 ≤ length l → wordAt (putWord l at v) at ≡ v % 2 ^ 32
   unfolding readOf writtenOf if_then_else_
-  word-same = read-written l at 4 v wide
+  word-same = read-written l at 4 v word-width
 
   pub word-away : (b : ℕ) → (b + 4 ≤ at) ⊎ (at + 4 ≤ b) → wordAt (putWord l at v) b ≡ wordAt l b
   unfolding readOf writtenOf if_then_else_
-  word-away b = read-untouched l at 4 v wide b 4 wide
+  word-away b = read-untouched l at 4 v word-width b 4 word-width
 
 pub word-lt : (l : List ℕ) (at : ℕ) → Bytes l → wordAt l at < 2 ^ 32
 unfolding readOf if_then_else_
-word-lt l at = read-lt l at 4 wide
+word-lt l at = read-lt l at 4 word-width

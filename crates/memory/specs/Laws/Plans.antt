@@ -11,6 +11,7 @@ use lib.Seq.{sets, sets-eq, getD-drop, drop-drop}
 use borrow.Author.Needs.{needs}
 use borrow.Author.Tests.{ltb-true, ltb-false, lt-ltb, le-ltb}
 use Rattle.bits.specs.Cases.{if_then_else_, if-yes, if-no}
+use Rattle.bits.specs.Laws.Order.{left-next}
 use Rattle.memory.specs.Bytes.{wordAt, putWord}
 use Rattle.memory.specs.Plans.{accessesOf, reachesOut, firstOut, outsideOf, wordsAt, loadedOf, putWords, storedOf, performedOf}
 use Rattle.memory.specs.declared.Found.{Found}
@@ -145,14 +146,13 @@ inside-span len at width (suc n) l h =
     let e : (at + width) % 2 ^ 32 ≡ at + width = omega arith in
     omega (arith, mul-suc width (suc n), rw e at (inside-span len ((at + width) % 2 ^ 32) width n l (first-inside len width at _ h .1)))
 
-pub span-inside : (len at width n : ℕ) → len < 2 ^ 32 → at + width * n ≤ len → outsideOf len at width n ≡ Inside
+pub span-inside : (len at width n : ℕ) → at + width * n ≤ len → outsideOf len at width n ≡ Inside
 unfolding accessesOf firstOut
-span-inside len at width zero l h = refl
-span-inside len at width (suc n) l h =
+span-inside len at width zero h = refl
+span-inside len at width (suc n) h =
     let k : at + width ≤ len = omega (arith, mul-suc width n) in
-    let e : (at + width) % 2 ^ 32 ≡ at + width = omega arith in
     first-later len width at (accessesOf ((at + width) % 2 ^ 32) width n) (le-ltb len (at + width) k)
-    ∙ span-inside len ((at + width) % 2 ^ 32) width n l (rw e (omega (arith, mul-suc width n)))
+    ∙ span-inside len ((at + width) % 2 ^ 32) width n (omega (arith, mul-suc width n))
 
 -- the address wraps to 0 behind the last word, the access there does not: it is the first that is reported
 pub last-word : (len : ℕ) → len ≤ 65536 → outsideOf len 0xFFFFFFFC 4 2 ≡ Outside 0xFFFFFFFC
@@ -189,10 +189,6 @@ unfolding loadedOf
 loaded-is l at count values h =
     let n : length (wordsAt l (accessesOf at 4 count)) ≡ count = length-wordsAt l (accessesOf at 4 count) ∙ length-accesses at 4 count in
     sets-eq (wordsAt l (accessesOf at 4 count)) values 0 (rw n (omega arith)) ∙ rw n (let e : 0 + count ≡ count = omega arith in rw e)
-
--- a counter i on its way to n
-left-next : (n i : ℕ) → n - i - 1 ≡ n - (i + 1)
-left-next n i = omega arith
 
 -- A load under way: i words are in their places, the others will come from a on.
 pub record Loading (l : List ℕ) (at count : ℕ) (before values : List ℕ) (a i : ℕ) : Type 0 where

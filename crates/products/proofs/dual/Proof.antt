@@ -1,13 +1,12 @@
 use lib.Dec.{lit<, lit≤}
-use Rattle.bits.specs.Laws.Range.{is-call, told}
+use Rattle.bits.specs.Laws.Range.{is-call, told, heard, read-within}
 use Rattle.products.specs.Duals.{dualOf}
-use Rattle.products.specs.Laws.Products.{heard, passed}
 use borrow.Author.Needs.{needs}
 use Rattle.products.proofs.dual.Statement.{statement}
 use Rattle.products.proofs.dual.Tie as tie
 
 total-requires : tie.Need-total-requires
-total-requires c κs = (passed (c .before .halves .ensures .1) (lit< tt) (lit≤ tt), passed (c .halves2 .ensures .1) (lit< tt) (lit≤ tt))
+total-requires c κs = (read-within (c .before .halves .ensures .1) (lit< tt) (lit≤ tt), read-within (c .halves2 .ensures .1) (lit< tt) (lit≤ tt))
 
 returns : tie.Need-returns
 unfolding dualOf

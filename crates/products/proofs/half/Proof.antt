@@ -1,8 +1,7 @@
 use lib.Dec.{lit<}
 use Rattle.bits.specs.Cases.{if_then_else_}
-use Rattle.bits.specs.Laws.Range.{told}
+use Rattle.bits.specs.Laws.Range.{told, heard}
 use Rattle.products.specs.Products.{halfOf}
-use Rattle.products.specs.Laws.Products.{heard}
 use borrow.Author.Needs.{needs}
 use Rattle.products.proofs.half.Statement.{statement}
 use Rattle.products.proofs.half.Tie as tie

@@ -1,6 +1,5 @@
 use lib.Dec.{lit<}
-use Rattle.bits.specs.Laws.Range.{is-mul, fit-mul, told}
-use Rattle.products.specs.Laws.Products.{heard}
+use Rattle.bits.specs.Laws.Range.{is-mul, fit-mul, told, heard}
 use borrow.Author.Needs.{needs}
 use Rattle.products.proofs.halves.Statement.{statement}
 use Rattle.products.proofs.halves.Tie as tie

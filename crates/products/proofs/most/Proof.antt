@@ -1,13 +1,12 @@
 use lib.Dec.{lit<, lit≤}
-use Rattle.bits.specs.Laws.Range.{in-nat}
+use Rattle.bits.specs.Laws.Range.{in-nat, heard, read-within}
 use Rattle.products.specs.Laws.Duals.{most-law}
-use Rattle.products.specs.Laws.Products.{heard, passed}
 use borrow.Author.Needs.{needs}
 use Rattle.products.proofs.most.Statement.{statement}
 use Rattle.products.proofs.most.Tie as tie
 
 total-requires : tie.Need-total-requires
-total-requires c κs = (in-nat 0 4294967296 (lit≤ tt), passed (c .words .ensures .1) (lit< tt) (lit≤ tt))
+total-requires c κs = (in-nat 0 4294967296 (lit≤ tt), read-within (c .words .ensures .1) (lit< tt) (lit≤ tt))
 
 returns : tie.Need-returns
 returns c =

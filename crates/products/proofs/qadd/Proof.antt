@@ -1,13 +1,13 @@
 use lib.Dec.{lit<, lit≤}
 use Rattle.products.specs.Products.{qaddOf}
-use Rattle.products.specs.Laws.Products.{heard, passed}
+use Rattle.bits.specs.Laws.Range.{heard, read-within}
 use borrow.Author.Needs.{needs}
 use Rattle.products.proofs.qadd.Statement.{statement}
 use Rattle.products.proofs.qadd.Tie as tie
 
 total-requires : tie.Need-total-requires
 total-requires c κs =
-    (passed (c .before .signed-word .ensures .1) (lit< tt) (lit≤ tt), passed (c .signed-word2 .ensures .1) (lit< tt) (lit≤ tt))
+    (read-within (c .before .signed-word .ensures .1) (lit< tt) (lit≤ tt), read-within (c .signed-word2 .ensures .1) (lit< tt) (lit≤ tt))
 
 returns : tie.Need-returns
 unfolding qaddOf

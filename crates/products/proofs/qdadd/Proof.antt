@@ -1,7 +1,6 @@
 use lib.Dec.{lit<, lit≤}
-use Rattle.bits.specs.Laws.Range.{is-nat, is-mul, fit-mul}
+use Rattle.bits.specs.Laws.Range.{is-nat, is-mul, fit-mul, heard}
 use Rattle.products.specs.Products.{qdaddOf, doubledOf}
-use Rattle.products.specs.Laws.Products.{heard}
 use borrow.Author.Needs.{needs}
 use Rattle.products.proofs.qdadd.Statement.{statement}
 use Rattle.products.proofs.qdadd.Tie as tie

@@ -1,6 +1,6 @@
 use lib.Dec.{lit<}
 use Rattle.products.specs.Products.{smlalOf}
-use Rattle.products.specs.Laws.Products.{heard}
+use Rattle.bits.specs.Laws.Range.{heard}
 use borrow.Author.Needs.{needs}
 use Rattle.products.proofs.smlal.Statement.{statement}
 use Rattle.products.proofs.smlal.Tie as tie

@@ -1,7 +1,6 @@
 use lib.Dec.{lit<}
-use Rattle.bits.specs.Laws.Range.{is-add, fit-add}
+use Rattle.bits.specs.Laws.Range.{is-add, fit-add, heard}
 use Rattle.products.specs.Products.{smlaxyOf}
-use Rattle.products.specs.Laws.Products.{heard}
 use borrow.Author.Needs.{needs}
 use Rattle.products.proofs.smlaxy.Statement.{statement}
 use Rattle.products.proofs.smlaxy.Tie as tie

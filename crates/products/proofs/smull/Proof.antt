@@ -2,7 +2,8 @@ use lib.IntN.{_*ℤ_}
 use lib.Dec.{lit<}
 use Rattle.bits.specs.Integers.{signed}
 use Rattle.products.specs.Products.{smullOf}
-use Rattle.products.specs.Laws.Products.{heard, long-wrapped}
+use Rattle.products.specs.Laws.Products.{long-wrapped}
+use Rattle.bits.specs.Laws.Range.{heard}
 use borrow.Author.Needs.{needs}
 use Rattle.products.proofs.smull.Statement.{statement}
 use Rattle.products.proofs.smull.Tie as tie

@@ -1,7 +1,6 @@
 use lib.Dec.{lit<}
-use Rattle.bits.specs.Laws.Range.{is-mul, fit-mul}
+use Rattle.bits.specs.Laws.Range.{is-mul, fit-mul, heard}
 use Rattle.products.specs.Products.{smulwOf}
-use Rattle.products.specs.Laws.Products.{heard}
 use borrow.Author.Needs.{needs}
 use Rattle.products.proofs.smulw.Statement.{statement}
 use Rattle.products.proofs.smulw.Tie as tie

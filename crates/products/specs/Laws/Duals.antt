@@ -4,14 +4,13 @@ use mathlib.Core.Bool.{Bool, true, false}
 use mathlib.Core.Logic.{⊎-elim}
 use Prim.Native.Nat.{ℕ, _+_, _*_, _/_, _%_, _^_, _≤_}
 use native.Mathlib.Omega.{arith}
-use native.Mathlib.Nat.{mod-eq-of-lt}
 use lib.IntN.{ℤ, pos, negℤ, _+ℤ_, _*ℤ_, +ℤ-idl, +ℤ-assoc, +ℤ-comm}
 use Rattle.bits.specs.Cases.{if_then_else_}
 use Rattle.bits.specs.Fields.{bitOf}
 use Rattle.bits.specs.Integers.{signed, wrap}
 use Rattle.bits.specs.Laws.Order.{split}
 use Rattle.bits.specs.Laws.Diff.{diff-eq, diff-pos, diff-mul, diff-add-pos}
-use Rattle.bits.specs.Laws.Wrap.{mod-same, wrap-add, wrap-lt}
+use Rattle.bits.specs.Laws.Wrap.{wrap-add, wrap-more, wrap-lt}
 use Rattle.bits.specs.Laws.Signed.{signed-low, signed-high}
 use Rattle.products.specs.Products.{totalOf}
 use Rattle.products.specs.Duals.{mostOf}
@@ -37,10 +36,6 @@ most-law base m s subtract r =
     rw (wrap-add 64 (totalOf (pos 0) p subtract) (base + bitOf r * 2 ^ 31), base-last p base (bitOf r * 2 ^ 31) subtract)
     (upper-half (wrap 64 z) (wrap-lt 64 z))
 
--- belongs in bits: 2^k more is the same modulo 2^k
-period : (k : ℕ) (z : ℤ) → wrap k z ≡ wrap k (z +ℤ pos (2 ^ k))
-period k z = sym (mod-same (wrap k z + 2 ^ k) (wrap k z) (2 ^ k) 1 (omega arith) ∙ mod-eq-of-lt (wrap-lt k z)) ∙ wrap-add k z (2 ^ k)
-
 swapped : (x y z : ℤ) → x +ℤ y +ℤ z ≡ x +ℤ z +ℤ y
 swapped x y z = +ℤ-assoc x y z ∙ ap (λ (t : ℤ). x +ℤ t) (+ℤ-comm y z) ∙ sym (+ℤ-assoc x z y)
 
@@ -56,7 +51,7 @@ module _ (n : ℕ) where
       ⊎-elim
       (λ l. rw (signed-low 32 n l))
       (λ l. let b : ℤ = signed 32 n *ℤ pos (2 ^ 32) in
-      ap (λ (t : ℤ). wrap 64 (t +ℤ y)) (sym (base-high l)) ∙ ap (wrap 64) (swapped b (pos (2 ^ 64)) y) ∙ sym (period 64 (b +ℤ y)))
+      ap (λ (t : ℤ). wrap 64 (t +ℤ y)) (sym (base-high l)) ∙ ap (wrap 64) (swapped b (pos (2 ^ 64)) y) ∙ sym (wrap-more 64 (b +ℤ y)))
       (split n (2 ^ 31))
 
   base-first : (y : ℤ) (k : ℕ) → wrap 64 (pos (n * 2 ^ 32) +ℤ y +ℤ pos k) ≡ wrap 64 (signed 32 n *ℤ pos (2 ^ 32) +ℤ y +ℤ pos k)

@@ -1,29 +1,22 @@
 -- Packing and unpacking undo each other: a record whose GE fits comes back, and of a word the bits that a record holds.
 use mathlib.Core.Path.{_≡_, refl, sym, ap, _∙_}
-use mathlib.Core.Bool.{Bool, true, false}
+use mathlib.Core.Bool.{Bool}
 use Prim.Native.Nat.{ℕ, zero, suc, _+_, _*_, _/_, _%_, _^_, _≤_, _<_}
 use native.Mathlib.Omega.{arith}
 use native.Mathlib.Nat.{mod-lt, div-add-mod'}
 use native.Mathlib.Numerals.{add-one}
 use lib.Bits.{bitAnd, and-block, and-mask, and-zero-r}
-use lib.Dec.{eqb, lit<, lit≤}
+use lib.Dec.{eqb, lit<}
 use lib.Pow.{pow-pos, split, shr-shr}
 use Rattle.bits.specs.Cases.{if_then_else_}
 use Rattle.bits.specs.Fields.{_⟨_⟩, _⟨_‥_⟩, bitOf}
+use Rattle.bits.specs.Laws.Bools.{bit-le, bit-eqb}
 use Rattle.psr.specs.declared.Mode.{Mode}
 use Rattle.psr.specs.declared.Mode.the-variants.{User, Fiq, Irq, Supervisor, Abort, Undefined, System}
 use Rattle.psr.specs.declared.Status.{Status}
 use Rattle.psr.specs.Status.{modeNumber, modeOf, wordOf, statusOf}
 
-bit-le : (b : Bool) → bitOf b ≤ 1
-bit-le true = lit≤ tt
-bit-le false = lit≤ tt
-
-bit-eqb : (b : Bool) → eqb (bitOf b) 1 ≡ b
-bit-eqb true = refl
-bit-eqb false = refl
-
-mode-lt : (m : Mode) → modeNumber m < 32
+pub mode-lt : (m : Mode) → modeNumber m < 32
 mode-lt User = lit< tt
 mode-lt Fiq = lit< tt
 mode-lt Irq = lit< tt

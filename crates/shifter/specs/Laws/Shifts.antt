@@ -18,7 +18,7 @@ use Rattle.bits.specs.Words.{rotatedOf}
 use Rattle.bits.specs.Laws.Order.{split}
 use Rattle.bits.specs.Laws.Diff.{diff-lt}
 use Rattle.bits.specs.Laws.Signed.{signed-low, signed-high}
-use Rattle.bits.specs.Laws.Words.{shr-is, rotated-lt}
+use Rattle.bits.specs.Laws.Words.{shr-is, powers, rotated-lt}
 use Rattle.shifter.specs.declared.ShiftType.{ShiftType}
 use Rattle.shifter.specs.declared.ShiftType.the-variants.{Lsl, Lsr, Asr, Ror}
 use Rattle.shifter.specs.declared.Operand.{Operand}
@@ -41,8 +41,7 @@ module _ (x n : ℕ) (hx : x < 2 ^ 32) where
   -- shifted left in 64 bits: the carry is bit 32
   left-carry : n ≤ 32 → x * 2 ^ n / 2 ^ 32 ≡ x / 2 ^ (32 - n)
   left-carry h =
-      let e : (32 - n) + n ≡ 32 = omega arith in
-      let s : 2 ^ (32 - n) * 2 ^ n ≡ 2 ^ 32 = sym (pow-add 2 (32 - n) n) ∙ ap (λ (i : ℕ). 2 ^ i) e in
+      let s : 2 ^ (32 - n) * 2 ^ n ≡ 2 ^ 32 = powers (32 - n) n 32 (omega arith) in
       ap (λ (m : ℕ). x * 2 ^ n / m) (sym s) ∙ mul-div-mul-right x (2 ^ (32 - n)) (pow-pos n)
 
   pub left-is : n ≤ 32 → _≡_ {A = Operand} (operand ((x * 2 ^ n) % 2 ^ 64 % 2 ^ 32) (eqb ((x * 2 ^ n) % 2 ^ 64 / 2 ^ 32 % 2) 1)) (throughOf Lsl x n)
@@ -80,7 +79,7 @@ module _ (x k : ℕ) (hx : x < 2 ^ 32) (hk : k < 32) where
   above-lt = let e : (32 - k) + k ≡ 32 = omega arith in shr-lt (32 - k) k (rw e hx)
 
   span : 2 ^ (32 - k) * 2 ^ k ≡ 2 ^ 32
-  span = let e : (32 - k) + k ≡ 32 = omega arith in sym (pow-add 2 (32 - k) k) ∙ ap (λ (i : ℕ). 2 ^ i) e
+  span = powers (32 - k) k 32 (omega arith)
 
   complement-shr : ((2 ^ 32 - 1) - x) / 2 ^ k ≡ above
   complement-shr =
@@ -126,9 +125,8 @@ turned-top x n hx h l =
     let k : ℕ = n - 1 in
     let e : n ≡ 1 + k = omega arith in
     let f : (32 - n) + n ≡ 32 = omega arith in
-    let g : k + (32 - n) ≡ 31 = omega arith in
     let u : x / 2 ^ n < 2 ^ (32 - n) = shr-lt (32 - n) n (rw f hx) in
-    let s : 2 ^ k * 2 ^ (32 - n) ≡ 2 ^ 31 = sym (pow-add 2 k (32 - n)) ∙ ap (λ (i : ℕ). 2 ^ i) g in
+    let s : 2 ^ k * 2 ^ (32 - n) ≡ 2 ^ 31 = powers k (32 - n) 31 (omega arith) in
     let m : x % 2 ^ n ≡ x / 2 ^ k % 2 * 2 ^ k + x % 2 ^ k = ap (λ (i : ℕ). x % 2 ^ i) e ∙ mod-pow-add x 1 k in
     rw (m, bit-is x k) (top-of (x / 2 ^ k % 2) (x % 2 ^ k) (2 ^ k) (2 ^ (32 - n)) (x / 2 ^ n) (omega arith) (mod-lt x (pow-pos k)) u s)
 

@@ -1,6 +1,6 @@
 -- A machine written and read again is the same machine, where no GE exceeds 15; a machine read is valid.
 use mathlib.Core.Path.{_≡_, refl, sym, ap, _∙_}
-use mathlib.Core.Bool.{Bool, true, false, _||_, true≢false}
+use mathlib.Core.Bool.{false}
 use mathlib.Core.List.{List, [], _∷_, _++_, map, append-assoc}
 use Prim.Native.Nat.{ℕ, zero, suc, _+_, _*_, _^_, _≤_, _<_}
 use native.Mathlib.Omega.{arith}
@@ -8,20 +8,19 @@ use native.Mathlib.Numerals.{add-one}
 use lib.Dec.{eqb, ltb, lit<, lit≤}
 use lib.ListN.{length, getD, take, drop}
 use lib.Seq.{drop-cons, drop-drop, drop-at, take-at, getD-drop}
-use borrow.Author.Tests.{le-ltb, le-leb, ltb-false}
+use borrow.Author.Tests.{le-ltb, le-leb}
 use Rattle.bits.specs.Cases.{if_then_else_, if-no, if-both}
 use Rattle.bits.specs.Laws.Words.{join-lanes}
-use Rattle.alu.specs.Laws.Sums.{bit-le}
-use Rattle.psr.specs.declared.Mode.{Mode}
-use Rattle.psr.specs.declared.Mode.the-variants.{User, Fiq, Irq, Supervisor, Abort, Undefined, System}
+use Rattle.bits.specs.Laws.Bools.{bit-le}
 use Rattle.psr.specs.declared.Packed.{Packed}
 use Rattle.psr.specs.declared.Status.{Status}
-use Rattle.psr.specs.Status.{modeNumber, wordOf, statusOf, packedOf}
+use Rattle.psr.specs.Status.{wordOf, statusOf, packedOf}
 use Rattle.psr.specs.With.{withGe}
-use Rattle.psr.specs.Laws.Packing.{unpack-pack}
+use Rattle.psr.specs.Laws.Packing.{mode-lt, unpack-pack}
 use Rattle.memory.specs.Bytes.{wordAt}
 use Rattle.memory.specs.Laws.Bytes.{Bytes, word-lt}
 use Rattle.cpu.specs.Answers.{noStatus, badOf}
+use Rattle.cpu.specs.Laws.Fits.{AllFit, good-fits}
 use Rattle.cpu.specs.declared.Machine.{Machine}
 use Rattle.cpu.specs.declared.Tag.{Tag}
 use Rattle.cpu.specs.declared.Tag.the-variants.{None, At}
@@ -80,16 +79,6 @@ fits-map f g [] h i = lit< tt
 fits-map f g (s ∷ l) h zero = g s (h 0)
 fits-map f g (s ∷ l) h (suc i) = fits-map f g l (λ k. h (suc k)) i
 
--- belongs in psr
-mode-lt : (m : Mode) → modeNumber m < 32
-mode-lt User = lit< tt
-mode-lt Fiq = lit< tt
-mode-lt Irq = lit< tt
-mode-lt Supervisor = lit< tt
-mode-lt Abort = lit< tt
-mode-lt Undefined = lit< tt
-mode-lt System = lit< tt
-
 -- a record whose GE fits: its packed word, that this is a word, and the record back
 module _ (s : Status) (h : s .ge ≤ 15) where
   packed-is : packedWordOf s ≡ wordOf s
@@ -123,35 +112,15 @@ five (a ∷ b ∷ c ∷ d ∷ []) h = absurd (omega arith)
 five (a ∷ b ∷ c ∷ d ∷ e ∷ []) h = refl
 five (a ∷ b ∷ c ∷ d ∷ e ∷ f ∷ l) h = absurd (omega arith)
 
-neither : (a b : Bool) → (a || b) ≡ false → (a ≡ false) × (b ≡ false)
-neither true b e = absurd (true≢false e)
-neither false b e = (refl, e)
-
--- where the answer is not 8, every GE fits
-ge-fits : (m : Machine) → badOf m ≡ false → (i : ℕ) → getD (recordsOf m) i noStatus .ge ≤ 15
-unfolding badOf
-ge-fits m e i =
-    let n₆ = neither _ _ e in
-    let n₅ = neither _ _ (n₆ .0) in
-    let n₄ = neither _ _ (n₅ .0) in
-    let n₃ = neither _ _ (n₄ .0) in
-    let n₂ = neither _ _ (n₃ .0) in
-    let n₁ = neither _ _ (n₂ .0) in
-    go (low (m .cpsr) (n₁ .0)) (low (m .spsr) (n₁ .1)) (low (bankedRecordOf m 0) (n₂ .1)) (low (bankedRecordOf m 1) (n₃ .1)) (low (bankedRecordOf m 2) (n₄ .1)) (low (bankedRecordOf m 3) (n₅ .1)) (low (bankedRecordOf m 4) (n₆ .1)) i
-  where
-    low : (s : Status) → ltb 15 (s .ge) ≡ false → s .ge ≤ 15
-    low s h = ltb-false 15 (s .ge) h
-
-    go : m .cpsr .ge ≤ 15 → m .spsr .ge ≤ 15 → bankedRecordOf m 0 .ge ≤ 15 → bankedRecordOf m 1 .ge ≤ 15 → bankedRecordOf m 2 .ge ≤ 15 → bankedRecordOf m 3 .ge ≤ 15 → bankedRecordOf m 4 .ge ≤ 15
-        → (i : ℕ) → getD (recordsOf m) i noStatus .ge ≤ 15
-    go a b c d e f g zero = a
-    go a b c d e f g (suc zero) = b
-    go a b c d e f g (suc (suc zero)) = c
-    go a b c d e f g (suc (suc (suc zero))) = d
-    go a b c d e f g (suc (suc (suc (suc zero)))) = e
-    go a b c d e f g (suc (suc (suc (suc (suc zero))))) = f
-    go a b c d e f g (suc (suc (suc (suc (suc (suc zero)))))) = g
-    go a b c d e f g (suc (suc (suc (suc (suc (suc (suc i))))))) = lit≤ tt
+ge-fits : (m : Machine) → AllFit m → (i : ℕ) → getD (recordsOf m) i noStatus .ge ≤ 15
+ge-fits m f zero = f .current
+ge-fits m f (suc zero) = f .saved
+ge-fits m f (suc (suc zero)) = f .banked 0 (lit< tt)
+ge-fits m f (suc (suc (suc zero))) = f .banked 1 (lit< tt)
+ge-fits m f (suc (suc (suc (suc zero)))) = f .banked 2 (lit< tt)
+ge-fits m f (suc (suc (suc (suc (suc zero))))) = f .banked 3 (lit< tt)
+ge-fits m f (suc (suc (suc (suc (suc (suc zero)))))) = f .banked 4 (lit< tt)
+ge-fits m f (suc (suc (suc (suc (suc (suc (suc i))))))) = lit≤ tt
 
 -- what stands behind each part of the way out
 abbrev afterUser : Machine → List ℕ
@@ -179,7 +148,7 @@ parts m = simp append-assoc
 module _ (m : Machine) (v : Valid m) (e : badOf m ≡ false) where
   all-fit : Fits (stateWordsOf m)
   all-fit i =
-      let g = ge-fits m e in
+      let g = ge-fits m (good-fits m e) in
       let f₆ : Fits (afterUser m) = fits-tag (m .tag) (v .tag) in
       let f₅ : Fits (afterFiq m) = fits-append (m .user) (afterUser m) (v .user .fits) f₆ in
       let f₄ : Fits (afterBanked m) = fits-append (m .fiq) (afterFiq m) (v .fiq .fits) f₅ in
@@ -194,7 +163,7 @@ module _ (m : Machine) (v : Valid m) (e : badOf m ≡ false) where
   read-written =
       let ws : List ℕ = stateWordsOf m in
       let size : length ws ≡ 54 = length-words m (record { regs = v .regs .size; banked = v .banked .size; fiq = v .fiq .size; user = v .user .size }) in
-      let g = ge-fits m e in
+      let g = ge-fits m (good-fits m e) in
       let packed : List ℕ = map packedWordOf (recordsOf m) in
       let numbers : List ℕ = map geNumberOf (recordsOf m) in
       let d₁₆ = part-next ws (m .regs) (afterRegs m) 0 16 (parts m) (v .regs .size) 16 refl in

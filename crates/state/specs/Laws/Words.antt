@@ -7,6 +7,7 @@ use native.Mathlib.Numerals.{add-one}
 use lib.ListN.{length, getD, set, drop, length-set, drop-of-length-le}
 use lib.Seq.{sets, sets-eq, drop-cons, drop-length}
 use Rattle.bits.specs.Words.{lanesOf}
+use Rattle.bits.specs.Laws.Order.{left-next}
 use Rattle.memory.specs.Bytes.{putWord}
 use Rattle.memory.specs.Laws.Bytes.{length-word}
 use Rattle.state.specs.State.{word, wordsFrom, bytesOf}
@@ -66,11 +67,10 @@ module _ {l : List ℕ} {from : ℕ} {before values : List ℕ} {i k : ℕ} (s :
   pub reading-next : i < length values → Reading l from before (set values i (word l k)) (i + 1) (k + 1)
   reading-next h =
       let n : length values ≡ length before = s .kept in
-      let left : length before - i - 1 ≡ length before - (i + 1) = omega arith in
       record {
         place = omega (arith, s .place);
         kept = length-set values i (word l k) ∙ n;
-        whole = sym (rw (from-next l k (length before - i) (omega arith), left, add-one i)) ∙ s .whole;
+        whole = sym (rw (from-next l k (length before - i) (omega arith), left-next (length before) i, add-one i)) ∙ s .whole;
       }
 
   pub reading-last : length values ≤ i → values ≡ wordsFrom l from (length before)

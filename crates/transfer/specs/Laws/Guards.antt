@@ -1,9 +1,10 @@
 -- The guard of a transfer as the code tests it, and memory beside a family that leaves it alone.
-use mathlib.Core.Path.{_≡_, ap}
+use mathlib.Core.Path.{_≡_, refl, ap}
 use mathlib.Core.Bool.{true, false}
 use mathlib.Core.List.{List}
 use Prim.Native.Nat.{ℕ}
 use Rattle.bits.specs.Cases.{if_then_else_}
+use lib.ListN.{getD}
 use Rattle.memory.specs.Plans.{reachesOut, outsideOf}
 use Rattle.memory.specs.declared.Found.{Found}
 use Rattle.memory.specs.declared.Found.the-variants.{Inside, Outside}
@@ -19,6 +20,13 @@ pub guarded-both : (P : Outcome × List ℕ × List ℕ → Type 0) (f : Found) 
 unfolding guardedOf
 guarded-both P Inside regs l p q = q
 guarded-both P (Outside address) regs l p q = p address
+
+-- byte b is what it was in l
+abbrev pub Untouched : List ℕ → ℕ → Outcome × List ℕ × List ℕ → Type 0
+Untouched l b x = getD (x .2) b 0 ≡ getD l b 0
+
+pub guarded-untouched : (f : Found) (regs l : List ℕ) (b : ℕ) (done : Outcome × List ℕ × List ℕ) → Untouched l b done → Untouched l b (guardedOf f regs l done)
+guarded-untouched f regs l b done h = guarded-both (Untouched l b) f regs l (λ a. refl) h
 
 module _ (regs l : List ℕ) (done : Outcome × List ℕ × List ℕ) (f : Found) where
   pub guarded-inside : f ≡ Inside → guardedOf f regs l done ≡ done

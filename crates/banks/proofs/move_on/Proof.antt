@@ -1,6 +1,6 @@
 use borrow.Author.Needs.{needs}
-use Rattle.moves.proofs.move_on.Statement.{statement}
-use Rattle.moves.proofs.move_on.Tie as tie
+use Rattle.banks.proofs.move_on.Statement.{statement}
+use Rattle.banks.proofs.move_on.Tie as tie
 
 pub move-on-spec : {M : Type 1} → statement M
 move-on-spec =
