@@ -159,7 +159,7 @@ fn set(state: &mut State, register: usize, value: u32) {
 }
 
 /// Sets registers so that the opcode reaches what it is there to reach.
-fn aim(state: &mut State, opcode: u32, length: u32, rng: &mut Rng) {
+pub fn aim(state: &mut State, opcode: u32, length: u32, rng: &mut Rng) {
     let [rm, rs, rd, rn] = [0, 8, 12, 16].map(|low| register(opcode, low));
     match family(opcode) {
         Family::Single | Family::Extra | Family::Block => {
