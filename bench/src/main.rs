@@ -134,6 +134,15 @@ mod tests {
     }
 
     #[test]
+    fn record_options_are_read() {
+        let words = ["--seed", "0xFF", "--date", "today"].map(String::from);
+        let options = record_options(&words).unwrap();
+        assert_eq!((options.seed, options.date.as_str()), (255, "today"));
+        assert!(record_options(&words[..3]).is_err());
+        assert!(record_options(&words[1..]).is_err());
+    }
+
+    #[test]
     fn bad_options_are_refused() {
         let lines = [
             "--seed",

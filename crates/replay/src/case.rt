@@ -1,14 +1,14 @@
 // One line of the list, replayed.
 ghost use Prim.Native.Nat.{_≤_};
 ghost use lib.ListN.{length};
-use crate::items;
-use crate::judge;
-use crate::judge::Verdict;
-use crate::make;
-use crate::text;
 use cpu::Machine;
 use cpu::Report;
 use engine::Finished;
+use listing::items;
+use listing::judge;
+use listing::judge::Verdict;
+use listing::make;
+use listing::text;
 
 // What a line lists: the answer with its values, and the count of a run.
 struct Listed {

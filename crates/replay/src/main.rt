@@ -1,14 +1,12 @@
 // Replays the list of recorded answers (crates/replay/README.md): prints the first difference, or how many cases had each answer.
 ghost use mathlib.Core.Path.{_≡_};
 ghost use lib.ListN.{length};
-use judge::Verdict;
+use listing::judge;
+use listing::judge::Verdict;
+use listing::say;
+use listing::text;
 
 mod case;
-mod items;
-mod judge;
-mod make;
-mod say;
-mod text;
 
 // A line that is empty or begins with # holds no case.
 fn holds_case(line: &[u8]) -> bool {
