@@ -1,6 +1,6 @@
 -- When a verdict says that all is as listed.
 use mathlib.Core.Path.{_≡_}
-use mathlib.Core.Bool.{Bool, true, false}
+use mathlib.Core.Bool.{Bool, true, false, _&&_}
 use Rattle.bits.specs.Cases.{if_then_else_, _==_}
 use Rattle.cpu.specs.declared.Report.{Report}
 use Rattle.listing.specs.declared.judge.Verdict.{Verdict}
@@ -16,6 +16,9 @@ isSame (Second f l) = false
 isSame (Count f l) = false
 isSame (Word p f l) = false
 isSame (Byte p f l) = false
+
+unfoldable pub allSame : Verdict → Verdict → Verdict → Bool
+allSame a b c = isSame a && (isSame b && isSame c)
 
 -- the test says yes exactly where the fact holds
 abbrev pub Tells : Bool → Type 0 → Type 0

@@ -1,7 +1,7 @@
 // What a case left behind, held to what is listed.
 ghost use mathlib.Core.Path.{_≡_};
 ghost use mathlib.Core.Bool.{false};
-ghost use Rattle.listing.specs.Verdicts.{isSame, Tells, sameAnswer};
+ghost use Rattle.listing.specs.Verdicts.{isSame, allSame, Tells, sameAnswer};
 use cpu::Report;
 
 // What differs first: what was found, then what is listed; for words and bytes the place before both.
@@ -125,12 +125,12 @@ pub fn is_same(verdict: Verdict) -> bool
 }
 
 // The first of three verdicts that is not Same.
-pub fn first_of(a: Verdict, b: Verdict, c: Verdict) -> Verdict {
-    if !is_same(a) {
-        a
-    } else if !is_same(b) {
-        b
+pub fn first_of(a: Verdict, b: Verdict, c: Verdict) -> Verdict
+    ensures { λ r. ⌜ isSame r ≡ allSame a b c ⌝ }
+{
+    if is_same(a) {
+        if is_same(b) { c } else { b }
     } else {
-        c
+        a
     }
 }

@@ -195,7 +195,11 @@ fn replay_case(
 }
 
 // `step`, `fetch` or `run`; the rest of the first word says only where the answer is from.
-pub fn replay_line(line: &[u8], memory: &mut [u8], listed_memory: &mut [u8]) -> Verdict {
+pub fn replay_line(
+    line: &[u8],
+    memory: &mut [u8; 65537],
+    listed_memory: &mut [u8; 65537],
+) -> Verdict {
     let kind = text::byte_at(line, 0);
     if kind == b's' || kind == b'f' || kind == b'r' {
         let from = bytes::scan::find(line, 0, line.len(), b' ');

@@ -8,7 +8,7 @@ use listing::text;
 
 mod case;
 
-// A line that is empty or begins with # holds no case.
+// A line that is empty or begins with # or 0 holds no case.
 fn holds_case(line: &[u8]) -> bool {
     let first = text::byte_at(line, 0);
     first != 0 && first != b'#'
@@ -28,11 +28,11 @@ fn count_answer(line: &[u8], counts: &mut [u32; 12]) {
     counts[i] = std::num::wrapping_add_u32(counts[i], 1);
 }
 
-// A line of the list; where it holds a case that is as listed, it is counted.
+// A line of the list; a case is counted by the answer that it lists.
 fn replay_line(
     line: &[u8],
-    memory: &mut [u8],
-    listed_memory: &mut [u8],
+    memory: &mut [u8; 65537],
+    listed_memory: &mut [u8; 65537],
     counts: &mut [u32; 12],
 ) -> Verdict {
     if holds_case(line) {
@@ -45,7 +45,7 @@ fn replay_line(
 }
 
 // Every line in turn, until one differs.
-fn replay_all(list: &[u8], memory: &mut [u8], listed_memory: &mut [u8]) {
+fn replay_all(list: &[u8], memory: &mut [u8; 65537], listed_memory: &mut [u8; 65537]) {
     let mut counts = [0u32; 12];
     let mut number: u32 = 0;
     let mut at = 0;
@@ -71,9 +71,7 @@ fn list_buffer() -> [u8; 524288]
 }
 
 // Room for the longest memory, and a byte more.
-fn memory_buffer() -> [u8; 65537]
-    ensures { λ r. ⌜ 65537 ≡ length r ⌝ }
-{
+fn memory_buffer() -> [u8; 65537] {
     [0; 65537]
 }
 
@@ -81,6 +79,7 @@ fn main() {
     let mut list = list_buffer();
     let mut memory = memory_buffer();
     let mut listed_memory = memory_buffer();
-    let n = io::read_full(0, &mut list);
-    replay_all(&list[..n], &mut memory, &mut listed_memory);
+    // what is left of the buffer is a line with no case
+    io::read_full(0, &mut list);
+    replay_all(&list, &mut memory, &mut listed_memory);
 }

@@ -9,37 +9,16 @@ Inv-loop state₀ i₀ state i = Unit {0}
 abbrev μ-loop : tie.MeasureT-loop
 μ-loop state₀ i₀ state i = 23 - i
 
-loop-holds : tie.Need-loop-holds Inv-loop μ-loop
-loop-holds c = search needs
-
-mul-write32 : tie.Need-mul-write32 Inv-loop μ-loop
-mul-write32 c = search needs
-
-write32-requires : tie.Need-write32-requires Inv-loop μ-loop
-write32-requires c κs = search needs
-
-add-i : tie.Need-add-i Inv-loop μ-loop
-add-i c = search needs
-
-loop-less : tie.Need-loop-less Inv-loop μ-loop
-loop-less c = search needs
-
-loop-again : tie.Need-loop-again Inv-loop μ-loop
-loop-again c = search needs
-
-returns : tie.Need-returns Inv-loop μ-loop
-returns c = search needs
-
 pub plain-words-spec : {M : Type 1} → statement M
 plain-words-spec =
     tie.close
     (tie.spec
     Inv-loop
     μ-loop
-    loop-holds
-    mul-write32
-    write32-requires
-    add-i
-    loop-less
-    loop-again
-    returns)
+    (λ c. search needs)
+    (λ c. search needs)
+    (λ c κs. search needs)
+    (λ c. search needs)
+    (λ c. search needs)
+    (λ c. search needs)
+    (λ c. search needs))
