@@ -1,25 +1,7 @@
 //! The state and the memory that a seed stands for; crates/replay/src/make.rt makes the same.
 
+use crate::compare::steps::EDGES;
 use crate::state::{plain, State, CPSR, GES, MODES, PC, RECORDS, TAG, WORDS};
-
-const EDGES: [u32; 16] = [
-    0,
-    1,
-    2,
-    0x1F,
-    0x7F,
-    0x80,
-    0xFF,
-    0x7FFF,
-    0x8000,
-    0xFFFF,
-    0x7FFF_FFFF,
-    0x8000_0000,
-    0x8000_0001,
-    0x8000_8000,
-    0x7FFF_7FFF,
-    0xFFFF_FFFF,
-];
 
 /// Seed 0 is the plain state at 0, and bytes that are the low bytes of their addresses.
 pub fn made(seed: u32, length: usize) -> (State, Vec<u8>) {

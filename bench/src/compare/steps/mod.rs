@@ -8,7 +8,7 @@ mod random;
 mod show;
 
 pub use directed::{directed, examples};
-pub use random::{aim, Source};
+pub use random::{aim, Source, EDGES};
 pub use show::{contrast, input};
 
 use super::tally::{Phase, Tally};

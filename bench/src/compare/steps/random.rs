@@ -7,8 +7,8 @@ use crate::rng::Rng;
 use crate::state::{self, State, GES, GE_MAX, MODES, PC, RECORDS, T, TAG, TAG_ADDRESS, WORDS};
 use zakuro_cpu::arm::shifter::{shift_by_immediate, ShiftType};
 
-/// Where products, sums and saturations turn.
-const EDGES: [u32; 16] = [
+/// Where products, sums and saturations turn. The recorded list has them by number: they stay in this order.
+pub const EDGES: [u32; 16] = [
     0,
     1,
     2,
