@@ -1,4 +1,4 @@
-//! The state and the memory that a seed stands for; crates/replay/src/make.rt makes the same.
+//! The state and the memory that a seed stands for; crates/listing/src/make.rt makes the same.
 
 use crate::compare::steps::EDGES;
 use crate::state::{plain, State, CPSR, GES, MODES, PC, RECORDS, TAG, WORDS};
