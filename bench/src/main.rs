@@ -7,6 +7,7 @@ mod minimise;
 mod opcodes;
 mod oracle;
 mod ours;
+mod record;
 mod replies;
 mod rng;
 mod speed;
@@ -17,7 +18,8 @@ use std::process::ExitCode;
 
 const USAGE: &str = "usage: compare [--short] [--seed N] [--cases N] \
                      [--only shifts|status|steps|programs] [--resume FILE --total N]
-       speed [--turns N]";
+       speed [--turns N]
+       record [--seed N] [--date DATE]";
 
 /// A number, hexadecimal after 0x.
 fn number(word: Option<&String>) -> Result<u64, String> {
@@ -73,11 +75,25 @@ fn speed_options(words: &[String]) -> Result<speed::Options, String> {
     }
 }
 
+fn record_options(words: &[String]) -> Result<record::Options, String> {
+    let mut options = record::Options::default();
+    let mut words = words.iter();
+    while let Some(word) = words.next() {
+        match word.as_str() {
+            "--seed" => options.seed = number(words.next())?,
+            "--date" => options.date = words.next().ok_or("a date is missing")?.clone(),
+            _ => return Err(format!("{word} is not known")),
+        }
+    }
+    Ok(options)
+}
+
 /// Whether the command found all as it should be.
 fn obey(words: &[String]) -> Result<bool, String> {
     match words.split_first() {
         Some((command, rest)) if command == "compare" => compare::run(&compare_options(rest)?),
         Some((command, rest)) if command == "speed" => speed::run(&speed_options(rest)?),
+        Some((command, rest)) if command == "record" => record::run(&record_options(rest)?),
         _ => Err("a command is missing".to_string()),
     }
 }
@@ -115,6 +131,15 @@ mod tests {
         assert!(all.only == Some(compare::Kind::Steps));
         let long = options("--resume here --total 1000000000").unwrap();
         assert_eq!(long.resume.unwrap().total, 1_000_000_000);
+    }
+
+    #[test]
+    fn record_options_are_read() {
+        let words = ["--seed", "0xFF", "--date", "today"].map(String::from);
+        let options = record_options(&words).unwrap();
+        assert_eq!((options.seed, options.date.as_str()), (255, "today"));
+        assert!(record_options(&words[..3]).is_err());
+        assert!(record_options(&words[1..]).is_err());
     }
 
     #[test]

@@ -4,7 +4,7 @@ mod programs;
 mod progress;
 mod shifts;
 mod status;
-mod steps;
+pub mod steps;
 mod tally;
 
 use crate::minimise::smallest;

@@ -352,8 +352,15 @@ fn modes(checker: &mut Checker) -> Outcome {
     Ok(())
 }
 
-/// The examples of docs/DIFFERENCES.md and of document 01, section 8.
 fn departures(checker: &mut Checker) -> Outcome {
+    for example in examples() {
+        checker.check_step(example)?;
+    }
+    Ok(())
+}
+
+/// The examples of docs/DIFFERENCES.md and of document 01, section 8.
+pub fn examples() -> Vec<Step> {
     let r0 = |word| with(&[(0, word)]);
     let svc = |word: u32, saved: u32| with(&[(0, word), (CPSR, SUPERVISOR), (SPSR, saved)]);
     let cases = [
@@ -395,10 +402,8 @@ fn departures(checker: &mut Checker) -> Outcome {
         (0xE00F_0291, with(&[(1, 3), (2, 5)])),
         (0xE8B0_0000, r0(0x100)),
     ];
-    for (opcode, state) in cases {
-        checker.check_step(given(opcode, state, 0x200))?;
-    }
-    Ok(())
+    let steps = cases.map(|(opcode, state)| given(opcode, state, 0x200));
+    steps.into()
 }
 
 const FILLS: u32 = 4;

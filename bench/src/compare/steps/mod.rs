@@ -7,8 +7,8 @@ mod lengths;
 mod random;
 mod show;
 
-pub use directed::directed;
-pub use random::Source;
+pub use directed::{directed, examples};
+pub use random::{aim, Source, EDGES};
 pub use show::{contrast, input};
 
 use super::tally::{Phase, Tally};

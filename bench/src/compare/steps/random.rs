@@ -7,8 +7,8 @@ use crate::rng::Rng;
 use crate::state::{self, State, GES, GE_MAX, MODES, PC, RECORDS, T, TAG, TAG_ADDRESS, WORDS};
 use zakuro_cpu::arm::shifter::{shift_by_immediate, ShiftType};
 
-/// Where products, sums and saturations turn.
-const EDGES: [u32; 16] = [
+/// Where products, sums and saturations turn. The recorded list has them by number: they stay in this order.
+pub const EDGES: [u32; 16] = [
     0,
     1,
     2,
@@ -159,7 +159,7 @@ fn set(state: &mut State, register: usize, value: u32) {
 }
 
 /// Sets registers so that the opcode reaches what it is there to reach.
-fn aim(state: &mut State, opcode: u32, length: u32, rng: &mut Rng) {
+pub fn aim(state: &mut State, opcode: u32, length: u32, rng: &mut Rng) {
     let [rm, rs, rd, rn] = [0, 8, 12, 16].map(|low| register(opcode, low));
     match family(opcode) {
         Family::Single | Family::Extra | Family::Block => {
