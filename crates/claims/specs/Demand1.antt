@@ -20,7 +20,7 @@ use Rattle.cpu.specs.With.{withRegs}
 use Rattle.engine.specs.declared.Stepped.{Stepped}
 use Rattle.engine.specs.declared.Finished.{Finished}
 use Rattle.engine.specs.Step.{nextOf, stepOf}
-use Rattle.engine.specs.Laws.Fits.{AllFit}
+use Rattle.cpu.specs.Laws.Fits.{AllFit}
 
 -- ---- the numbers
 

@@ -12,7 +12,7 @@ use Rattle.bits.specs.Cases.{if-both}
 use Rattle.bits.specs.Integers.{signed}
 use Rattle.bits.specs.Laws.Wrap.{wrap-lt}
 use Rattle.bits.specs.Laws.Words.{rotated-lt}
-use Rattle.alu.specs.Laws.Sums.{bit-le}
+use Rattle.bits.specs.Laws.Bools.{bit-le}
 use Rattle.shifter.specs.declared.ShiftType.{ShiftType}
 use Rattle.shifter.specs.declared.ShiftType.the-variants.{Lsl, Lsr, Asr, Ror}
 use Rattle.shifter.specs.declared.Operand.{Operand}

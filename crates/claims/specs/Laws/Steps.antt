@@ -14,7 +14,7 @@ use Rattle.cpu.specs.declared.Answer.the-variants as answer
 use Rattle.cpu.specs.Answers.{badOf, isDone, isCall, refuses}
 use Rattle.engine.specs.declared.Stepped.{Stepped}
 use Rattle.engine.specs.Step.{stepped, nextOf, executedOf, fetches, takenOf, givenOf, gatedOf, stepOf, stepWithOf}
-use Rattle.engine.specs.Laws.Fits.{good-fits, fits-good}
+use Rattle.cpu.specs.Laws.Fits.{good-fits, fits-good}
 use Rattle.engine.specs.Laws.Fetch.{fetches-inside}
 use Rattle.engine.specs.Laws.AsBefore.{AsBefore, step-as-before, given-as-before}
 use Rattle.claims.specs.Demand1.{numberOf, among, InOrder, Answers, Answered, TooLong, Bad, InThumb, Unfetched, Reached, StepAnswered, GivenAnswered}
