@@ -3,6 +3,7 @@ ghost use mathlib.Core.Path.{_≡_};
 ghost use mathlib.Core.Bool.{true};
 ghost use Rattle.arm.specs.Turn.{seen, isTagged, tagAddress, effectOf, turnOf};
 ghost use Rattle.arm.specs.Laws.Cold.{isCold};
+use cpu::Answer;
 use cpu::Outcome;
 use cpu::Tag;
 use decode::Family;
@@ -43,11 +44,11 @@ fn execute_cold(
         Family::DataProcessing => cpu::refuse(regs, op),
         Family::MultiplyShort => cpu::refuse(regs, op),
         Family::MultiplyLong => cpu::refuse(regs, op),
-        Family::Halfword => multiply::halfword(regs, op),
-        Family::Saturating => multiply::saturating(regs, op),
+        Family::Halfword => cpu::refuse(regs, op),
+        Family::Saturating => cpu::refuse(regs, op),
         Family::Swap => exclusive::swap(regs, mem, op),
         Family::Exclusive => exclusive::execute(regs, mem, op, is_tagged(tag), tag_address(tag)),
-        Family::Extra => loadstore::extra(regs, op, mem),
+        Family::Extra => cpu::refuse(regs, op),
         Family::StatusMove => cpu::move_status(),
         Family::BranchExchange => cpu::refuse(regs, op),
         Family::CountZeros => cpu::refuse(regs, op),
@@ -67,6 +68,44 @@ fn execute_cold(
     }
 }
 
+// An answer and an outcome made anew, field by field: what a call left in memory is so kept out of the families that are inlined.
+fn renew_answer(answer: Answer) -> Answer
+    ensures { λ r. ⌜ r ≡ answer ⌝ }
+{
+    match answer {
+        Answer::Done => Answer::Done,
+        Answer::Supervisor(number) => Answer::Supervisor(number),
+        Answer::Undefined(at, opcode) => Answer::Undefined(at, opcode),
+        Answer::Breakpoint(at, number) => Answer::Breakpoint(at, number),
+        Answer::Coprocessor(opcode) => Answer::Coprocessor(opcode),
+        Answer::Thumb => Answer::Thumb,
+        Answer::Fetch(at) => Answer::Fetch(at),
+        Answer::Bus(address) => Answer::Bus(address),
+        Answer::BadState => Answer::BadState,
+        Answer::TooLong => Answer::TooLong,
+        Answer::Timeout => Answer::Timeout,
+        Answer::TransferForm(opcode) => Answer::TransferForm(opcode),
+    }
+}
+
+fn renew(o: Outcome) -> Outcome
+    ensures { λ r. ⌜ r ≡ o ⌝ }
+{
+    let kind = o.kind;
+    let answer = o.answer;
+    Outcome {
+        kind,
+        at: o.at,
+        answer: renew_answer(answer),
+        n: o.n,
+        z: o.z,
+        c: o.c,
+        v: o.v,
+        t: o.t,
+        ge: o.ge,
+    }
+}
+
 fn execute(
     family: Family,
     regs: &mut [u32; 16],
@@ -83,27 +122,27 @@ fn execute(
         Family::DataProcessing => dataproc::execute(regs, op, c, v),
         Family::MultiplyShort => multiply::short(regs, op, c, v),
         Family::MultiplyLong => multiply::long(regs, op, c, v),
-        Family::Halfword => execute_cold(family, regs, op, c, v, ge, tag, mem),
-        Family::Saturating => execute_cold(family, regs, op, c, v, ge, tag, mem),
-        Family::Swap => execute_cold(family, regs, op, c, v, ge, tag, mem),
-        Family::Exclusive => execute_cold(family, regs, op, c, v, ge, tag, mem),
-        Family::Extra => execute_cold(family, regs, op, c, v, ge, tag, mem),
-        Family::StatusMove => execute_cold(family, regs, op, c, v, ge, tag, mem),
+        Family::Halfword => multiply::halfword(regs, op),
+        Family::Saturating => multiply::saturating(regs, op),
+        Family::Swap => renew(execute_cold(family, regs, op, c, v, ge, tag, mem)),
+        Family::Exclusive => renew(execute_cold(family, regs, op, c, v, ge, tag, mem)),
+        Family::Extra => loadstore::extra(regs, op, mem),
+        Family::StatusMove => renew(execute_cold(family, regs, op, c, v, ge, tag, mem)),
         Family::BranchExchange => misc::branch_exchange(regs, op),
         Family::CountZeros => misc::clz(regs, op),
-        Family::Breakpoint => execute_cold(family, regs, op, c, v, ge, tag, mem),
+        Family::Breakpoint => renew(execute_cold(family, regs, op, c, v, ge, tag, mem)),
         Family::Single => loadstore::single(regs, op, c, mem),
         Family::Media => media::execute(regs, op, ge),
         Family::Block => block::execute(regs, op, mem),
         Family::Branch => misc::branch(regs, op),
-        Family::Coprocessor => execute_cold(family, regs, op, c, v, ge, tag, mem),
-        Family::CoprocessorMove => execute_cold(family, regs, op, c, v, ge, tag, mem),
-        Family::Supervisor => execute_cold(family, regs, op, c, v, ge, tag, mem),
-        Family::Undefined => execute_cold(family, regs, op, c, v, ge, tag, mem),
-        Family::BranchLinkExchange => execute_cold(family, regs, op, c, v, ge, tag, mem),
-        Family::ClearExclusive => execute_cold(family, regs, op, c, v, ge, tag, mem),
-        Family::ChangeState => execute_cold(family, regs, op, c, v, ge, tag, mem),
-        Family::Preload => execute_cold(family, regs, op, c, v, ge, tag, mem),
+        Family::Coprocessor => renew(execute_cold(family, regs, op, c, v, ge, tag, mem)),
+        Family::CoprocessorMove => renew(execute_cold(family, regs, op, c, v, ge, tag, mem)),
+        Family::Supervisor => renew(execute_cold(family, regs, op, c, v, ge, tag, mem)),
+        Family::Undefined => renew(execute_cold(family, regs, op, c, v, ge, tag, mem)),
+        Family::BranchLinkExchange => renew(execute_cold(family, regs, op, c, v, ge, tag, mem)),
+        Family::ClearExclusive => renew(execute_cold(family, regs, op, c, v, ge, tag, mem)),
+        Family::ChangeState => renew(execute_cold(family, regs, op, c, v, ge, tag, mem)),
+        Family::Preload => renew(execute_cold(family, regs, op, c, v, ge, tag, mem)),
     }
 }
 

@@ -64,16 +64,17 @@ pub enum Kind {
     Stop,
 }
 
+// The values that a family seldom sets stand between the kind and the flags: side by side they would be packed into one word and taken apart again.
 pub struct Outcome {
     pub kind: Kind,
+    pub at: u32,
+    pub answer: Answer,
     pub n: bool,
     pub z: bool,
     pub c: bool,
     pub v: bool,
     pub t: bool,
     pub ge: u8,
-    pub at: u32,
-    pub answer: Answer,
 }
 
 pub fn report_answer(answer: Answer) -> Report

@@ -3,6 +3,7 @@ ghost use mathlib.Core.Path.{_≡_};
 ghost use Prim.Native.Nat.{_<_};
 ghost use Rattle.dataproc.specs.Dataproc.{readOf, operandOf, logical, resultOf, flaggedOf, placedOf, dataprocOf};
 ghost use Rattle.dataproc.specs.Laws.Operands.{lateOf};
+ghost use Rattle.dataproc.specs.Laws.Places.{putUnless};
 use alu::Sum;
 use cpu::Outcome;
 use shifter::Operand;
@@ -12,9 +13,12 @@ fn read(regs: &[u32; 16], r: u32, late: bool) -> u32
     requires { ⌜ r < 16 ⌝ }
     ensures { λ v. ⌜ v ≡ readOf (now (regs .entry)) r late ⌝ }
 {
-    let next = (r == 15) & late;
-    if next {
-        bits::wrapping_add(regs[15], 4)
+    if r == 15 {
+        if late {
+            bits::wrapping_add(regs[15], 4)
+        } else {
+            regs[15]
+        }
     } else {
         regs[r as usize]
     }
@@ -95,24 +99,32 @@ fn set_flags(regs: &mut [u32; 16], x: Sum) -> Outcome
     cpu::set_flags_of(x.value, x.carry, x.overflow)
 }
 
-// Where the result goes.
+// A compare keeps the register.
+fn put_unless(keep: bool, regs: &mut [u32; 16], rd: u32, value: u32)
+    requires { ⌜ rd < 16 ⌝ }
+    ensures { λ r. ⌜ now (regs .exit) ≡ putUnless keep (now (regs .entry)) rd value ⌝ }
+{
+    if keep {} else {
+        regs[rd as usize] = value;
+    }
+}
+
+// Where the result goes; the flags are set in one place, so that the engine's match over the kind is taken at once.
 fn place(regs: &mut [u32; 16], op: u32, x: Sum) -> Outcome
     ensures { λ r. ⌜ (r, now (regs .exit)) ≡ placedOf (now (regs .entry)) op x ⌝ }
 {
     let rd = op / 4096 % 16;
-    if op / 8388608 % 4 == 2 {
-        if op / 1048576 % 2 == 1 {
-            set_flags(regs, x)
-        } else {
-            cpu::finish(regs)
-        }
-    } else if op / 1048576 % 2 == 1 {
-        if rd == 15 {
+    let compares = op / 8388608 % 4 == 2;
+    if op / 1048576 % 2 == 1 {
+        let returns = (rd == 15) & !compares;
+        if returns {
             cpu::return_to(x.value)
         } else {
-            regs[rd as usize] = x.value;
+            put_unless(compares, regs, rd, x.value);
             set_flags(regs, x)
         }
+    } else if compares {
+        cpu::finish(regs)
     } else {
         cpu::land(regs, rd, x.value)
     }

@@ -200,10 +200,6 @@ fn pack_sat_extend(regs: &mut [u32; 16], op: u32, ge: u8) -> Outcome
     ensures { λ r. ⌜ (r, now (regs .exit)) ≡ packingOf (now (regs .entry)) op ge ⌝ }
 {
     let even = !(op / 32 % 2 == 1);
-    let sel = (op / 1048576 % 8 == 0) & (op / 32 % 8 == 5);
-    let ssat16 = (op / 1048576 % 8 == 2) & (op / 32 % 8 == 1);
-    let usat16 = (op / 1048576 % 8 == 6) & (op / 32 % 8 == 1);
-    let sat16 = ssat16 | usat16;
     if even {
         if op / 1048576 % 8 == 0 {
             pkh(regs, op)
@@ -212,12 +208,20 @@ fn pack_sat_extend(regs: &mut [u32; 16], op: u32, ge: u8) -> Outcome
         }
     } else if op / 32 % 8 == 3 {
         extend(regs, op)
-    } else if sel {
-        select(regs, op, ge)
-    } else if sat16 {
-        saturate16(regs, op)
     } else {
-        reverse(regs, op)
+        let sel = (op / 1048576 % 8 == 0) & (op / 32 % 8 == 5);
+        if sel {
+            select(regs, op, ge)
+        } else {
+            let ssat16 = (op / 1048576 % 8 == 2) & (op / 32 % 8 == 1);
+            let usat16 = (op / 1048576 % 8 == 6) & (op / 32 % 8 == 1);
+            let sat16 = ssat16 | usat16;
+            if sat16 {
+                saturate16(regs, op)
+            } else {
+                reverse(regs, op)
+            }
+        }
     }
 }
 
@@ -319,16 +323,18 @@ fn usad8(regs: &mut [u32; 16], op: u32) -> Outcome
 pub fn execute(regs: &mut [u32; 16], op: u32, ge: u8) -> Outcome
     ensures { λ r. ⌜ (r, now (regs .exit)) ≡ mediaOf (now (regs .entry)) op ge ⌝ }
 {
-    let usad = (op / 1048576 % 8 == 0) & (op / 32 % 8 == 0);
     if op / 8388608 % 4 == 0 {
         parallel(regs, op)
     } else if op / 8388608 % 4 == 1 {
         pack_sat_extend(regs, op, ge)
     } else if op / 8388608 % 4 == 2 {
         dual_multiply(regs, op)
-    } else if usad {
-        usad8(regs, op)
     } else {
-        cpu::refuse(regs, op)
+        let usad = (op / 1048576 % 8 == 0) & (op / 32 % 8 == 0);
+        if usad {
+            usad8(regs, op)
+        } else {
+            cpu::refuse(regs, op)
+        }
     }
 }

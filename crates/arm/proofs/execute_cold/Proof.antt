@@ -20,11 +20,11 @@ returns-3 c = not-cold (c .before .before .before .before .before .pre) (c .befo
 
 returns-4 : tie.Need-returns-4
 unfolding effectOf
-returns-4 c = rw (c .before .before .enum-told4 .given .1) (beside-is (c .halfword .ensures))
+returns-4 c = not-cold (c .before .before .before .before .before .pre) (c .before .before .enum-told4 .given .1) refl
 
 returns-5 : tie.Need-returns-5
 unfolding effectOf
-returns-5 c = rw (c .before .before .enum-told5 .given .1) (beside-is (c .saturating .ensures))
+returns-5 c = not-cold (c .before .before .before .before .before .pre) (c .before .before .enum-told5 .given .1) refl
 
 returns-6 : tie.Need-returns-6
 unfolding effectOf
@@ -36,7 +36,7 @@ returns-7 c = rw (c .before .before .before .before .before .before .before .enu
 
 returns-8 : tie.Need-returns-8
 unfolding effectOf
-returns-8 c = rw (c .before .before .before .before .before .enum-told8 .given .1) (c .before .before .extra .ensures)
+returns-8 c = not-cold (c .before .before .before .before .before .pre) (c .before .before .enum-told8 .given .1) refl
 
 returns-9 : tie.Need-returns-9
 unfolding effectOf
@@ -84,7 +84,7 @@ returns-19 c = rw (c .before .before .enum-told19 .given .1) (beside-is (c .supe
 
 returns-20 : tie.Need-returns-20
 unfolding effectOf
-returns-20 c = rw (c .before .before .enum-told20 .given .1) (beside-is (c .refuse10 .ensures))
+returns-20 c = rw (c .before .before .enum-told20 .given .1) (beside-is (c .refuse13 .ensures))
 
 returns-21 : tie.Need-returns-21
 unfolding effectOf
@@ -165,7 +165,6 @@ execute-cold-spec =
     returns-6
     (λ c. search needs)
     returns-7
-    (λ c. search needs)
     returns-8
     returns-9
     returns-10
