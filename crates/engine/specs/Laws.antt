@@ -2,6 +2,7 @@
 pub mod Gate
 pub mod Fetch
 pub mod Going
+pub mod Walk
 pub mod AsBefore
 pub mod Fits
 pub mod Kept

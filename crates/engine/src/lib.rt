@@ -1,10 +1,13 @@
 // The public calls: a step, a step with a given opcode, and a run.
 ghost use mathlib.Core.Path.{_≡_};
+ghost use mathlib.Core.Bool.{false};
+ghost use lib.ListN.{length};
 ghost use Rattle.cpu.specs.With.{withTag};
 ghost use Rattle.block.specs.UserBlock.{userBlockOf};
-ghost use Rattle.engine.specs.Step.{blockedOf, settledOf, executedOf, takenOf, givenOf, fetches};
+ghost use Rattle.engine.specs.Step.{blockedOf, fetches};
 ghost use Rattle.engine.specs.Promises.{Steps, StepsWith, Runs};
 ghost use Rattle.engine.specs.Laws.Gate.{gateOf};
+ghost use Rattle.engine.specs.Laws.Walk.{lacksNext, nextOp, stepBy, Goes};
 use cpu::Answer;
 use cpu::Kind;
 use cpu::Machine;
@@ -46,7 +49,11 @@ fn admit(m: Machine, len: usize) -> Gate
 fn can_fetch(mem: &[u8], at: u32) -> bool
     ensures { λ r. ⌜ r ≡ fetches (now (mem .entry)) at ⌝ }
 {
-    (at % 4 == 0) & !memory::reaches_out(mem.len(), at, 4)
+    if at % 4 == 0 {
+        !memory::reaches_out(mem.len(), at, 4)
+    } else {
+        false
+    }
 }
 
 // A block transfer with S: it can still meet an access outside.
@@ -91,118 +98,152 @@ fn with_tag(m: Machine, tag: Tag) -> Machine
     }
 }
 
-// What an outcome changes in the machine, whose registers the family has written.
-fn settle(m: Machine, at: u32, op: u32, o: Outcome, mem: &mut [u8]) -> Stepped
-    ensures { λ r. ⌜ (r, now (mem .exit)) ≡ settledOf (o .kind) m at op o (now (mem .entry)) ⌝ }
+// Whether there is no next instruction: none is given, and none can be fetched at A.
+fn lacks_next(mem: &[u8], at: u32, given: bool) -> bool
+    ensures { λ r. ⌜ r ≡ lacksNext given (now (mem .entry)) at ⌝ }
 {
-    let mut cur = m;
-    let kind = o.kind;
-    match kind {
-        Kind::Nothing => Stepped {
-            machine: cur,
-            answer: Answer::Done,
-        },
-        Kind::Flags => {
-            cur.cpsr.n = o.n;
-            cur.cpsr.z = o.z;
-            cur.cpsr.c = o.c;
-            cur.cpsr.v = o.v;
-            Stepped {
-                machine: cur,
-                answer: Answer::Done,
-            }
-        }
-        Kind::Sticky => {
-            cur.cpsr.q = true;
-            Stepped {
-                machine: cur,
-                answer: Answer::Done,
-            }
-        }
-        Kind::Lanes => {
-            cur.cpsr.ge = o.ge;
-            Stepped {
-                machine: cur,
-                answer: Answer::Done,
-            }
-        }
-        Kind::Exchange => {
-            cur.cpsr.t = o.t;
-            Stepped {
-                machine: cur,
-                answer: Answer::Done,
-            }
-        }
-        Kind::Tagged => Stepped {
-            machine: with_tag(cur, Tag::At(o.at)),
-            answer: Answer::Done,
-        },
-        Kind::Untagged => Stepped {
-            machine: with_tag(cur, Tag::None),
-            answer: Answer::Done,
-        },
-        Kind::Return => Stepped {
-            machine: banks::return_to(cur, o.at),
-            answer: Answer::Done,
-        },
-        Kind::Moves => Stepped {
-            machine: moves::move_status(cur, op),
-            answer: Answer::Done,
-        },
-        Kind::Block => settle_block(cur, at, op, mem),
-        Kind::Call => Stepped {
-            machine: cur,
-            answer: Answer::Supervisor(o.at),
-        },
-        Kind::Stop => {
-            cur.regs[15] = at;
-            let answer = o.answer;
-            Stepped {
-                machine: cur,
-                answer,
-            }
-        }
-    }
+    if given { false } else { !can_fetch(mem, at) }
 }
 
-// The instruction op at A.
-fn execute(m: Machine, op: u32, mem: &mut [u8]) -> Stepped
-    ensures { λ r. ⌜ (r, now (mem .exit)) ≡ executedOf m op (now (mem .entry)) ⌝ }
+fn take_next(mem: &[u8], at: u32, given: bool, op: u32) -> u32
+    requires { ⌜ lacksNext given (now mem) at ≡ false ⌝ }
+    ensures { λ r. ⌜ r ≡ nextOp given op (now (mem .entry)) at ⌝ }
 {
-    let mut cur = m;
-    let at = cur.regs[15];
-    let n = cur.cpsr.n;
-    let z = cur.cpsr.z;
-    let c = cur.cpsr.c;
-    let v = cur.cpsr.v;
-    let ge = cur.cpsr.ge;
-    let tag = cur.tag;
-    let o = arm::turn(&mut cur.regs, at, op, n, z, c, v, ge, tag, mem);
-    settle(cur, at, op, o, mem)
+    if given { op } else { memory::read32(mem, at) }
 }
 
-// A step on a machine and memory that the gate admits.
-fn take(m: Machine, mem: &mut [u8]) -> Stepped
-    ensures { λ r. ⌜ (r, now (mem .exit)) ≡ takenOf m (now (mem .entry)) ⌝ }
+// At most budget steps of a machine that the gate admits, which changes in place: each arm of the match ends a step.
+fn go(m: Machine, mem: &mut [u8], given: bool, op: u32, budget: u32) -> Finished
+    requires { ⌜ gateOf m (length (now mem)) ≡ Gate.Open ⌝ }
+    ensures { λ r. ⌜ Goes given op budget m (now (mem .entry)) (r, now (mem .exit)) ⌝ }
 {
-    let at = m.regs[15];
-    let thumb = m.cpsr.t;
-    if thumb {
-        Stepped {
-            machine: m,
-            answer: Answer::Thumb,
+    let mut cur = m;
+    let mut k: u32 = 0;
+    while k < budget {
+        let at = cur.regs[15];
+        let thumb = cur.cpsr.t;
+        if thumb {
+            return Finished {
+                machine: cur,
+                answer: Answer::Thumb,
+                count: k,
+            };
         }
-    } else {
-        let found = can_fetch(mem, at);
-        if found {
-            execute(m, memory::read32(mem, at), mem)
-        } else {
-            Stepped {
-                machine: m,
+        let lost = lacks_next(mem, at, given);
+        if lost {
+            return Finished {
+                machine: cur,
                 answer: Answer::Fetch(at),
+                count: k,
+            };
+        }
+        let word = take_next(mem, at, given, op);
+        let n = cur.cpsr.n;
+        let z = cur.cpsr.z;
+        let c = cur.cpsr.c;
+        let v = cur.cpsr.v;
+        let ge = cur.cpsr.ge;
+        let tag = cur.tag;
+        let o = arm::turn(&mut cur.regs, at, word, n, z, c, v, ge, tag, mem);
+        let kind = o.kind;
+        match kind {
+            Kind::Nothing => {
+                k += 1;
+                continue;
+            }
+            Kind::Flags => {
+                cur.cpsr.n = o.n;
+                cur.cpsr.z = o.z;
+                cur.cpsr.c = o.c;
+                cur.cpsr.v = o.v;
+                k += 1;
+                continue;
+            }
+            Kind::Sticky => {
+                cur.cpsr.q = true;
+                k += 1;
+                continue;
+            }
+            Kind::Lanes => {
+                cur.cpsr.ge = o.ge;
+                k += 1;
+                continue;
+            }
+            Kind::Exchange => {
+                cur.cpsr.t = o.t;
+                k += 1;
+                continue;
+            }
+            Kind::Tagged => {
+                cur = with_tag(cur, Tag::At(o.at));
+                k += 1;
+                continue;
+            }
+            Kind::Untagged => {
+                cur = with_tag(cur, Tag::None);
+                k += 1;
+                continue;
+            }
+            Kind::Return => {
+                cur = banks::return_to(cur, o.at);
+                k += 1;
+                continue;
+            }
+            Kind::Moves => {
+                cur = moves::move_status(cur, word);
+                k += 1;
+                continue;
+            }
+            Kind::Block => {
+                let s = settle_block(cur, at, word, mem);
+                let answer = s.answer;
+                let machine = s.machine;
+                if cpu::is_done(answer) {
+                    cur = machine;
+                    k += 1;
+                    continue;
+                } else {
+                    return Finished {
+                        machine,
+                        answer,
+                        count: k,
+                    };
+                }
+            }
+            Kind::Call => {
+                return Finished {
+                    machine: cur,
+                    answer: Answer::Supervisor(o.at),
+                    count: k + 1,
+                };
+            }
+            Kind::Stop => {
+                cur.regs[15] = at;
+                let answer = o.answer;
+                return Finished {
+                    machine: cur,
+                    answer,
+                    count: k,
+                };
             }
         }
     }
+    Finished {
+        machine: cur,
+        answer: Answer::Done,
+        count: k,
+    }
+}
+
+// A step is a run of one.
+fn go_once(m: Machine, mem: &mut [u8], given: bool, op: u32) -> Stepped
+    requires { ⌜ gateOf m (length (now mem)) ≡ Gate.Open ⌝ }
+    ensures { λ r. ⌜ (r, now (mem .exit)) ≡ stepBy given op m (now (mem .entry)) ⌝ }
+{
+    let f = go(m, mem, given, op, 1);
+    let machine = f.machine;
+    let answer = f.answer;
+    Stepped { machine, answer }
 }
 
 pub fn step(m: Machine, mem: &mut [u8]) -> Stepped
@@ -210,7 +251,7 @@ pub fn step(m: Machine, mem: &mut [u8]) -> Stepped
 {
     let gate = admit(m, mem.len());
     match gate {
-        Gate::Open => take(m, mem),
+        Gate::Open => go_once(m, mem, false, 0),
         Gate::Shut(answer) => Stepped { machine: m, answer },
     }
 }
@@ -220,28 +261,47 @@ pub fn step_opcode(m: Machine, op: u32, mem: &mut [u8]) -> Stepped
 {
     let gate = admit(m, mem.len());
     match gate {
-        Gate::Open => give(m, op, mem),
+        Gate::Open => go_once(m, mem, true, op),
         Gate::Shut(answer) => Stepped { machine: m, answer },
     }
 }
 
-// A given opcode on a machine and memory that the gate admits.
-fn give(m: Machine, op: u32, mem: &mut [u8]) -> Stepped
-    ensures { λ r. ⌜ (r, now (mem .exit)) ≡ givenOf m op (now (mem .entry)) ⌝ }
+// A run whose budget is used up answers 10.
+pub fn run(m: Machine, mem: &mut [u8], budget: u32) -> Finished
+    ensures { λ r. ⌜ Runs m (now (mem .entry)) budget (r, now (mem .exit)) ⌝ }
 {
-    let thumb = m.cpsr.t;
-    if thumb {
-        Stepped {
-            machine: m,
-            answer: Answer::Thumb,
+    let gate = admit(m, mem.len());
+    match gate {
+        Gate::Open => {
+            let f = go(m, mem, false, 0, budget);
+            let machine = f.machine;
+            let answer = f.answer;
+            let count = f.count;
+            if cpu::is_done(answer) {
+                let answer = Answer::Timeout;
+                Finished {
+                    machine,
+                    answer,
+                    count,
+                }
+            } else {
+                Finished {
+                    machine,
+                    answer,
+                    count,
+                }
+            }
         }
-    } else {
-        execute(m, op, mem)
+        Gate::Shut(answer) => Finished {
+            machine: m,
+            answer,
+            count: 0,
+        },
     }
 }
 
-// At most budget steps, each with its own gate.
-pub fn run(m: Machine, mem: &mut [u8], budget: u32) -> Finished
+// The same as `run`, with the machine handed by value from step to step.
+pub fn run_plain(m: Machine, mem: &mut [u8], budget: u32) -> Finished
     ensures { λ r. ⌜ Runs m (now (mem .entry)) budget (r, now (mem .exit)) ⌝ }
 {
     let mut cur = m;
