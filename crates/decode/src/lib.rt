@@ -1,7 +1,8 @@
 // From an opcode to the family of instructions that it belongs to.
 ghost use mathlib.Core.Path.{_≡_};
 ghost use Prim.Native.Nat.{_<_};
-ghost use Rattle.decode.specs.Families.{multiplyOrSwapOf, miscellaneousOf, registerSpaceOf, immediateSpaceOf, conditionalOf, unconditionalOf, familyOf};
+ghost use Rattle.bits.specs.Cases.{if_then_else_};
+ghost use Rattle.decode.specs.Families.{comparesNothing, multiplyOrSwapOf, miscellaneousOf, registerSpaceOf, immediateSpaceOf, conditionalOf, unconditionalOf, familyOf};
 
 pub enum Family {
     DataProcessing,
@@ -73,21 +74,34 @@ fn miscellaneous(hi: u32, lo: u32) -> Family
     }
 }
 
-fn register_space(hi: u32, lo: u32) -> Family
-    ensures { λ r. ⌜ r ≡ registerSpaceOf hi lo ⌝ }
+// Operations, and in the codes of compares without S the miscellaneous instructions.
+fn operation_space(hi: u32, lo: u32) -> Family
+    ensures { λ r. ⌜ r ≡ (if comparesNothing hi then miscellaneousOf hi lo else Family.DataProcessing) ⌝ }
 {
-    let outside = (lo / 8 % 2 == 1) & (lo % 2 == 1);
     let hole = (hi / 8 % 4 == 2) & !(hi % 2 == 1);
-    if outside {
-        if lo / 2 % 4 == 0 {
-            multiply_or_swap(hi)
-        } else {
-            Family::Extra
-        }
-    } else if hole {
+    if hole {
         miscellaneous(hi, lo)
     } else {
         Family::DataProcessing
+    }
+}
+
+// Bit 4 comes before bit 7: most operations have it clear.
+fn register_space(hi: u32, lo: u32) -> Family
+    ensures { λ r. ⌜ r ≡ registerSpaceOf hi lo ⌝ }
+{
+    if lo % 2 == 1 {
+        if lo / 8 % 2 == 1 {
+            if lo / 2 % 4 == 0 {
+                multiply_or_swap(hi)
+            } else {
+                Family::Extra
+            }
+        } else {
+            operation_space(hi, lo)
+        }
+    } else {
+        operation_space(hi, lo)
     }
 }
 
