@@ -11,7 +11,6 @@ ghost use Rattle.engine.specs.Laws.Walk.{lacksNext, nextOp, stepBy, Goes
 use cpu::Answer;
 use cpu::Kind;
 use cpu::Machine;
-use cpu::Outcome;
 use cpu::Tag;
 
 pub struct Stepped {

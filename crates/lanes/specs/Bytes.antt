@@ -18,6 +18,15 @@ selOf ge n m =
 unfoldable pub distance : ℕ → ℕ → ℕ
 distance x y = if x <? y then y - x else x - y
 
+-- of each byte of Rm and that of Rs
+abbrev pub distancesOf : List ℕ → List ℕ → List ℕ
+distancesOf m s =
+    distance (getD m 0 0) (getD s 0 0)
+    ∷ distance (getD m 1 0) (getD s 1 0)
+    ∷ distance (getD m 2 0) (getD s 2 0)
+    ∷ distance (getD m 3 0) (getD s 3 0)
+    ∷ []
+
 -- A4.1.136 USAD8: the sum of the absolute differences
 unfoldable pub usad8Of : List ℕ → List ℕ → ℕ
 usad8Of m s =

@@ -6,7 +6,7 @@ ghost use Rattle.bits.specs.Cases.{if_then_else_};
 ghost use Rattle.bits.specs.Integers.{signed, wrap};
 ghost use Rattle.bits.specs.Laws.Range.{Within};
 ghost use Rattle.lanes.specs.Parallel.{resultOf, signedOf, unsignedOf, wrappedOf, keptOf, halvedOf, unsignedFrom, laneOf, setsGe, geOf, halvesOf, bytesOf, bytewiseOf, parallelOf};
-ghost use Rattle.lanes.specs.Bytes.{selOf, distance, usad8Of, usada8Of};
+ghost use Rattle.lanes.specs.Bytes.{selOf, distance, distancesOf, usad8Of, usada8Of};
 ghost use Rattle.lanes.specs.Packing.{pkhbtOf, pkhtbOf, addedHalves, addedOf, extendOf};
 ghost use Rattle.lanes.specs.Saturation.{ssatOf, usatOf, ssat16Of, usat16Of, besideOf};
 
@@ -291,24 +291,36 @@ pub fn select(ge: u8, n: [u8; 4], m: [u8; 4]) -> [u8; 4]
     ]
 }
 
-fn absolute_difference(x: u8, y: u8) -> u32
-    ensures { λ r. ⌜ (r ≡ distance x y) × (r ≤ 255) ⌝ }
+fn absolute_difference(x: u8, y: u8) -> u8
+    ensures { λ r. ⌜ r ≡ distance x y ⌝ }
 {
-    if x < y {
-        (y - x) as u32
-    } else {
-        (x - y) as u32
-    }
+    if x < y { y - x } else { x - y }
+}
+
+// The distance of each byte of Rm to that of Rs.
+pub fn measure(m: [u8; 4], s: [u8; 4]) -> [u8; 4]
+    ensures { λ r. ⌜ r ≡ distancesOf m s ⌝ }
+{
+    [
+        absolute_difference(m[0], s[0]),
+        absolute_difference(m[1], s[1]),
+        absolute_difference(m[2], s[2]),
+        absolute_difference(m[3], s[3]),
+    ]
+}
+
+fn sum_bytes(a: u8, b: u8, c: u8, d: u8) -> u32
+    ensures { λ r. ⌜ (r ≡ a + b + c + d) × (r ≤ 1020) ⌝ }
+{
+    a as u32 + b as u32 + c as u32 + d as u32
 }
 
 // USAD8, of the bytes of Rm and Rs.
 pub fn usad8(m: [u8; 4], s: [u8; 4]) -> u32
     ensures { λ r. ⌜ (r ≡ usad8Of m s) × (r ≤ 1020) ⌝ }
 {
-    absolute_difference(m[0], s[0])
-        + absolute_difference(m[1], s[1])
-        + absolute_difference(m[2], s[2])
-        + absolute_difference(m[3], s[3])
+    let d = measure(m, s);
+    sum_bytes(d[0], d[1], d[2], d[3])
 }
 
 // USADA8.

@@ -1,4 +1,3 @@
-use native.Mathlib.Omega.{arith}
 use Rattle.lanes.specs.Bytes.{usad8Of}
 use borrow.Author.Needs.{needs}
 use Rattle.lanes.proofs.usad8.Statement.{statement}
@@ -6,33 +5,7 @@ use Rattle.lanes.proofs.usad8.Tie as tie
 
 returns : tie.Need-returns
 unfolding usad8Of
-returns c = (
-  rw (
-    c .absolute-difference4 .ensures .0,
-    c .before .absolute-difference3 .ensures .0,
-    c .before .before .absolute-difference2 .ensures .0,
-    c .before .before .before .absolute-difference .ensures .0,
-  ),
-  omega arith,
-)
+returns c = (rw (c .sum-bytes .ensures .0, c .before .measure .ensures), c .sum-bytes .ensures .1)
 
 pub usad8-spec : {M : Type 1} → statement M
-usad8-spec =
-    tie.close
-    (tie.spec
-    (λ c. search needs)
-    (λ c. search needs)
-    (λ c κs. search needs)
-    (λ c. search needs)
-    (λ c. search needs)
-    (λ c κs. search needs)
-    (λ c. search needs)
-    (λ c. search needs)
-    (λ c. search needs)
-    (λ c κs. search needs)
-    (λ c. search needs)
-    (λ c. search needs)
-    (λ c. search needs)
-    (λ c κs. search needs)
-    (λ c. search needs)
-    returns)
+usad8-spec = tie.close (tie.spec (λ c κs. search needs) (λ c. search needs) (λ c. search needs) (λ c. search needs) (λ c. search needs) (λ c κs. search needs) returns)
