@@ -11,7 +11,7 @@ use Rattle.bits.specs.Fields.{_⟨_⟩, _⟨_‥_⟩}
 use Rattle.shifter.specs.declared.Operand.{Operand}
 use Rattle.shifter.specs.Shifts.{operand, typeOf, byImmediateOf, byRegisterOf}
 use Rattle.dataproc.specs.declared.Operands.{Operands}
-use Rattle.dataproc.specs.Dataproc.{shiftsByRegister, readOf, operandOf, firstOf}
+use Rattle.dataproc.specs.Dataproc.{readOf, operandOf, firstOf}
 
 pub read-early : (regs : List ℕ) (r : ℕ) → readOf regs r false ≡ getD regs r 0
 unfolding readOf if_then_else_

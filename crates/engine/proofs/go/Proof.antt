@@ -1,8 +1,7 @@
 use mathlib.Core.Path.{_≡_, refl, sym, ap, _∙_}
 use mathlib.Core.List.{List}
 use native.Mathlib.Omega.{arith}
-use Prim.Native.Nat.{ℕ, _+_, _-_, _^_, _<_, _≤_}
-use lib.ListN.{length}
+use Prim.Native.Nat.{ℕ, _+_, _-_, _^_, _<_}
 use borrow.Author.Needs.{needs}
 use Rattle.cpu.specs.declared.Kind.the-variants as kind
 use Rattle.cpu.specs.Answers.{isCall}

@@ -1,4 +1,3 @@
-use borrow.Author.Needs.{needs}
 use Rattle.bits.specs.Cases.{cases}
 use Rattle.engine.specs.Laws.Fetch.{fetches-inside}
 use Rattle.engine.specs.Laws.Walk.{nextOp, next-fetched}

@@ -29,7 +29,7 @@ use Rattle.engine.specs.declared.Stepped.{Stepped}
 use Rattle.engine.specs.declared.Finished.{Finished}
 use Rattle.engine.specs.Step.{stepped, going, blockedOf, settledOf, nextOf, turnedOf, executedOf, fetches, takenOf, givenOf, gatedOf, stepOf, stepWithOf}
 use Rattle.engine.specs.Run.{finished, endedOf, goOf}
-use Rattle.engine.specs.Laws.Gate.{gateOf, byGate, gated-by}
+use Rattle.engine.specs.Laws.Gate.{gateOf, gated-by}
 use Rattle.engine.specs.Laws.Kept.{step-ge-kept, given-ge-kept}
 
 -- a given opcode is always there; else it must be fetched

@@ -1,4 +1,3 @@
-use borrow.Author.Needs.{needs}
 use Rattle.bits.specs.Cases.{cases}
 use Rattle.listing.specs.Verdicts.{sameAnswer}
 use Rattle.listing.proofs.judge.judge_answer.Statement.{statement}

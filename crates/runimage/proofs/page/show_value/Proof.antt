@@ -1,4 +1,3 @@
-use borrow.Author.Needs.{needs}
 use Rattle.bits.specs.Cases.{cases}
 use Rattle.runimage.specs.Image.{shownFrom}
 use Rattle.runimage.proofs.page.show_value.Statement.{statement}
