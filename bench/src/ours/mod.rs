@@ -4,13 +4,10 @@ pub mod steps;
 
 use crate::replies::{Packed, Shifted, Unpacked};
 
-// Nothing checks these against the exports: keep the two side by side.
-unsafe extern "C" {
-    safe fn tholungdek_pack(word: u32, ge: u32) -> u64;
-    safe fn tholungdek_unpack(word: u32) -> u64;
-    safe fn tholungdek_shift_immediate(kind: u32, value: u32, amount: u32, carry: bool) -> u64;
-    safe fn tholungdek_shift_register(kind: u32, value: u32, amount: u32, carry: bool) -> u64;
-}
+// The declarations are those of the crate for hosts: the bench tries them too.
+#[cfg_attr(not(steps), allow(dead_code))]
+#[path = "../../../embed/rust/src/raw.rs"]
+mod raw;
 
 fn low(reply: u64) -> u32 {
     reply as u32
@@ -28,7 +25,7 @@ fn shifted(reply: u64) -> Shifted {
 }
 
 pub fn pack(word: u32, ge: u32) -> Packed {
-    let reply = tholungdek_pack(word, ge);
+    let reply = raw::pack(word, ge);
     Packed {
         answer: high(reply),
         word: low(reply),
@@ -36,7 +33,7 @@ pub fn pack(word: u32, ge: u32) -> Packed {
 }
 
 pub fn unpack(word: u32) -> Unpacked {
-    let reply = tholungdek_unpack(word);
+    let reply = raw::unpack(word);
     Unpacked {
         word: low(reply),
         ge: high(reply),
@@ -44,9 +41,9 @@ pub fn unpack(word: u32) -> Unpacked {
 }
 
 pub fn shift_immediate(kind: u32, value: u32, amount: u32, carry: bool) -> Shifted {
-    shifted(tholungdek_shift_immediate(kind, value, amount, carry))
+    shifted(raw::shift_immediate(kind, value, amount, carry))
 }
 
 pub fn shift_register(kind: u32, value: u32, amount: u32, carry: bool) -> Shifted {
-    shifted(tholungdek_shift_register(kind, value, amount, carry))
+    shifted(raw::shift_register(kind, value, amount, carry))
 }

@@ -1,5 +1,7 @@
 //! The proved steps and runs, on lent bytes with a fence behind them.
 
+#[cfg(steps)]
+use super::raw;
 use crate::replies::{Answer, Left};
 use crate::state::{from_bytes, to_bytes, word_at, State, BYTES};
 
@@ -9,37 +11,6 @@ pub const LINKED: bool = cfg!(steps);
 pub const ANSWER: usize = 12;
 /// A run's answer has its count as a fourth word.
 pub const RUN_ANSWER: usize = 16;
-
-// Nothing checks these against the exports: keep the two side by side.
-#[cfg(steps)]
-unsafe extern "C" {
-    fn tholungdek_step(
-        state: *mut u8,
-        state_len: usize,
-        memory: *mut u8,
-        memory_len: usize,
-        answer: *mut u8,
-        answer_len: usize,
-    ) -> u32;
-    fn tholungdek_step_opcode(
-        state: *mut u8,
-        state_len: usize,
-        memory: *mut u8,
-        memory_len: usize,
-        opcode: u32,
-        answer: *mut u8,
-        answer_len: usize,
-    ) -> u32;
-    fn tholungdek_run(
-        state: *mut u8,
-        state_len: usize,
-        memory: *mut u8,
-        memory_len: usize,
-        budget: u32,
-        answer: *mut u8,
-        answer_len: usize,
-    ) -> u32;
-}
 
 /// Which of the three is called, and with what beside the slices.
 #[derive(Clone, Copy, PartialEq, Eq)]
@@ -60,18 +31,10 @@ impl Call {
 
 #[cfg(steps)]
 pub fn call(call: Call, state: &mut [u8], memory: &mut [u8], answer: &mut [u8]) -> u32 {
-    let (s, s_len) = (state.as_mut_ptr(), state.len());
-    let (m, m_len) = (memory.as_mut_ptr(), memory.len());
-    let (a, a_len) = (answer.as_mut_ptr(), answer.len());
-    // SAFETY: each pointer is that of a slice lent for the call alone, with its length.
-    unsafe {
-        match call {
-            Call::Step => tholungdek_step(s, s_len, m, m_len, a, a_len),
-            Call::StepOpcode(opcode) => {
-                tholungdek_step_opcode(s, s_len, m, m_len, opcode, a, a_len)
-            }
-            Call::Run(budget) => tholungdek_run(s, s_len, m, m_len, budget, a, a_len),
-        }
+    match call {
+        Call::Step => raw::step(state, memory, answer),
+        Call::StepOpcode(opcode) => raw::step_opcode(state, memory, opcode, answer),
+        Call::Run(budget) => raw::run(state, memory, budget, answer),
     }
 }
 

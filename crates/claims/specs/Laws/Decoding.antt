@@ -35,7 +35,7 @@ module _ (op : ℕ) where
     immediates e = rw (conditional op c, bits-27-25 op, e)
 
     -- bits 7 and 4 are not both set
-    operations : op ⟨ 27 ‥ 25 ⟩ ≡ 0 → (op ⟨ 7 ⟩ && op ⟨ 4 ⟩) ≡ false → ¬ Miscellaneous op → familyOf op ≡ family.DataProcessing
+    pub operations : op ⟨ 27 ‥ 25 ⟩ ≡ 0 → (op ⟨ 7 ⟩ && op ⟨ 4 ⟩) ≡ false → ¬ Miscellaneous op → familyOf op ≡ family.DataProcessing
     unfolding registerSpaceOf if_then_else_
     operations e f n = rw (registers e, bit-7 op, bit-4 op, f, compares-no n)
 

@@ -5,8 +5,10 @@ use mathlib.Core.List.{List}
 use native.Mathlib.Omega.{arith}
 use Prim.Native.Nat.{ℕ, zero, suc, _+_, _-_, _%_, _^_, _<_, _≤_}
 use lib.ListN.{length, set}
+use borrow.Author.Tests.{not-true, not-false}
 use Rattle.bits.specs.Cases.{if_then_else_, if-yes, if-no, _<?_}
 use Rattle.bits.specs.Fields.{bitOf}
+use Rattle.bits.specs.Laws.Bools.{neither}
 use Rattle.bits.specs.Laws.Order.{left-suc}
 use Rattle.memory.specs.Bytes.{wordAt}
 use Rattle.memory.specs.declared.Found.{Found}
@@ -36,17 +38,9 @@ use Rattle.engine.specs.Laws.Kept.{step-ge-kept, given-ge-kept}
 unfoldable pub lacksNext : Bool → List ℕ → ℕ → Bool
 lacksNext given l at = if given then false else not (fetches l at)
 
-not-not : (b : Bool) → not b ≡ false → b ≡ true
-not-not true e = refl
-not-not false e = sym e
-
-not-is : (b : Bool) → not b ≡ true → b ≡ false
-not-is true e = sym e
-not-is false e = refl
-
 pub next-fetched : (given : Bool) (l : List ℕ) (at : ℕ) → given ≡ false → lacksNext given l at ≡ false → fetches l at ≡ true
 unfolding lacksNext
-next-fetched given l at e h = not-not (fetches l at) (sym (if-no given false (not (fetches l at)) e) ∙ h)
+next-fetched given l at e h = not-false (fetches l at) (sym (if-no given false (not (fetches l at)) e) ∙ h)
 
 unfoldable pub nextOp : Bool → ℕ → List ℕ → ℕ → ℕ
 nextOp given op l at = if given then op else wordAt l at
@@ -108,7 +102,7 @@ unfolding stepBy stepWithOf stepOf givenOf takenOf lacksNext nextOp if_then_else
 step-as true op word m l gate arm has w t q =
     executed-as m word l t q ∙ ap (λ (x : ℕ). executedOf m x l) w ∙ sym (gated-by m l _ (sym gate) ∙ if-no _ _ _ arm)
 step-as false op word m l gate arm has w t q =
-    executed-as m word l t q ∙ ap (λ (x : ℕ). executedOf m x l) w ∙ sym (gated-by m l _ (sym gate) ∙ if-no _ _ _ arm ∙ if-yes _ _ _ (not-not (fetches l (nextOf m)) has))
+    executed-as m word l t q ∙ ap (λ (x : ℕ). executedOf m x l) w ∙ sym (gated-by m l _ (sym gate) ∙ if-no _ _ _ arm ∙ if-yes _ _ _ (not-false (fetches l (nextOf m)) has))
 
 -- Thumb state
 pub step-thumb : (given : Bool) (op : ℕ) (m : Machine) (l : List ℕ) → gateOf m (length l) ≡ Open → m .cpsr .t ≡ true
@@ -123,14 +117,9 @@ pub step-lost : (given : Bool) (op : ℕ) (m : Machine) (l : List ℕ)
     → (let p : Stepped × List ℕ = (stepped m (answer.Fetch (nextOf m)), l) in p) ≡ stepBy given op m l
 unfolding stepBy stepOf takenOf lacksNext if_then_else_
 step-lost true op m l gate arm has = absurd (false≢true has)
-step-lost false op m l gate arm has = sym (gated-by m l _ (sym gate) ∙ if-no _ _ _ arm ∙ if-no _ _ _ (not-is (fetches l (nextOf m)) has))
+step-lost false op m l gate arm has = sym (gated-by m l _ (sym gate) ∙ if-no _ _ _ arm ∙ if-no _ _ _ (not-true (fetches l (nextOf m)) has))
 
 -- ---- refusals
-
-neither : (a b : Bool) → not (a || b) ≡ true → (a ≡ false) × (b ≡ false)
-neither true b e = absurd (false≢true e)
-neither false true e = absurd (false≢true e)
-neither false false e = (refl, refl)
 
 uncounted : (k : ℕ) (a : Answer) → isCall a ≡ false → k ≡ k + bitOf (isCall a)
 uncounted k a e = let h : k ≡ k + 0 = omega arith in rw e h
@@ -240,7 +229,7 @@ module _ (given : Bool) (op budget : ℕ) (m₀ : Machine) (l₀ : List ℕ) (k 
   stop-refuses t told =
       let s = sound-turn (m .regs) (nextOf m) (t .word) (m .cpsr .n) (m .cpsr .z) (seen (m .cpsr .c) (m .cpsr .v) (m .cpsr .ge) (m .tag)) l in
       let here : Sound (set (m .regs) 15 ((nextOf m + 8) % 2 ^ 32)) l (t .o, t .g, t .l′) = rw (t .turned) s in
-      neither (isDone (t .o .answer)) (isCall (t .o .answer)) (here .refusal told)
+      neither (isDone (t .o .answer)) (isCall (t .o .answer)) (not-true (isDone (t .o .answer) || isCall (t .o .answer)) (here .refusal told))
 
 -- ---- a step is a walk of one, and a run a walk whose end is answer 10
 
