@@ -1,4 +1,6 @@
 // Sums with carry and overflow, and saturation, on numbers alone.
+#![tactic(auto)]
+
 ghost use Rattle.std.specs.Prelude.{◌≡◌, ◌<◌, ◌≤◌};
 ghost use Rattle.bits.specs.Laws.Signed.{lifted};
 ghost use Rattle.alu.specs.Sums.{add_of, adc_of, sub_of, sbc_of};

@@ -1,4 +1,6 @@
 // One instruction: the condition, the family, and the one match over the families.
+#![tactic(auto)]
+
 ghost use Rattle.std.specs.Prelude.{◌≡◌, true};
 ghost use Rattle.arm.specs.Turn.{seen, is_tagged, tag_address, effect_of, turn_of};
 ghost use Rattle.arm.specs.Laws.Cold.{is_cold};

@@ -1,4 +1,6 @@
 // Bank switching: mode changes, returns, and the User bank, on the machine by value.
+#![tactic(auto)]
+
 ghost use Rattle.std.specs.Prelude.{◌≡◌, ◌+◌, ◌-◌, ◌*◌, ◌<◌, ◌≤◌, get_or, set, ◌==◌};
 ghost use Rattle.bits.specs.Cases.{when◌then◌else◌};
 ghost use Rattle.psr.specs.Status.{mode_number};

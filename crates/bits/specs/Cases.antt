@@ -1,5 +1,5 @@
 -- The choice between two values by a test, and the ruleset by which proofs take it: `search cases`.
-use Rattle.std.specs.Prelude.{◌≡◌, ℕ, Bool, true, false, ◌==◌, nat_le, nat_lt}
+use Rattle.std.specs.Prelude.{◌≡◌, ℕ, Bool, true, false, nat_le, nat_lt}
 use Rattle.std.proofs.Common.{rules, eq-eqb, ne_eqb, le-leb, lt-ltb, le-ltb}
 use Rattle.std.proofs.lemmas.Bool.{lt-leb}
 

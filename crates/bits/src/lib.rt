@@ -1,4 +1,6 @@
 // Words, their bits, bytes and signed readings: what the language lacks and every other crate needs.
+#![tactic(auto)]
+
 ghost use Rattle.std.specs.Prelude.{◌≡◌, ◌+◌, ◌-◌, ◌*◌, ◌%◌, ◌^◌, ◌<◌, ◌≤◌};
 ghost use Rattle.bits.specs.Fields.{bit_of, ◌⟨◌⟩, ◌⟨◌‥◌⟩};
 ghost use Rattle.bits.specs.Integers.{signed, wrap};

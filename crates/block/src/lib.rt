@@ -1,4 +1,6 @@
 // LDM and STM: on lent registers, and with S on the machine by value.
+#![tactic(auto)]
+
 ghost use Rattle.std.specs.Prelude.{◌≡◌, ◌^◌, ◌<◌, length};
 ghost use Rattle.cpu.specs.With.{with_regs};
 ghost use Rattle.banks.specs.Banks.{user_reg_of};

@@ -1,4 +1,6 @@
 // The machine, its answers, and what a family of instructions leaves to do.
+#![tactic(auto)]
+
 ghost use Rattle.std.specs.Prelude.{◌≡◌, ◌<◌};
 ghost use Rattle.cpu.specs.Answers.{reported, is_done, is_call, bad_of};
 ghost use Rattle.cpu.specs.Outcomes.{leaves, nothing, flags, flags_of, sticky, lanes, exchange, tagged, untagged, returns, moves, block, calls, stops, undefined_of, done_of, put_of, jumped_of, landed_of, exchanged_of};

@@ -1,4 +1,6 @@
 // Data-processing instructions, on lent registers.
+#![tactic(auto)]
+
 ghost use Rattle.std.specs.Prelude.{◌≡◌, true, ◌<◌, get_or};
 ghost use Rattle.bits.specs.Fields.{◌⟨◌‥◌⟩};
 ghost use Rattle.dataproc.specs.Dataproc.{read_of, first_of, operand_of, logical, result_of, flagged_of, dataproc_of};

@@ -1,4 +1,6 @@
 // From an opcode to the family of instructions that it belongs to.
+#![tactic(auto)]
+
 ghost use Rattle.std.specs.Prelude.{◌≡◌, ◌<◌};
 ghost use Rattle.bits.specs.Cases.{when◌then◌else◌};
 ghost use Rattle.decode.specs.Families.{compares_nothing, multiply_or_swap_of, miscellaneous_of, register_space_of, immediate_space_of, conditional_of, unconditional_of, family_of};

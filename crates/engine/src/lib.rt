@@ -1,4 +1,6 @@
 // The public calls: a step, a step with a given opcode, and a run.
+#![tactic(auto)]
+
 ghost use Rattle.std.specs.Prelude.{◌≡◌, false, length};
 ghost use Rattle.cpu.specs.With.{with_tag};
 ghost use Rattle.block.specs.UserBlock.{user_block_of};

@@ -1,4 +1,6 @@
 // Swaps, and loads and stores exclusive, on lent registers and memory.
+#![tactic(auto)]
+
 ghost use Rattle.std.specs.Prelude.{◌≡◌, ◌<◌};
 ghost use Rattle.memory.specs.Bytes.{Width};
 ghost use Rattle.exclusive.specs.Exclusive.{swap_width_of, swap_of, width_of, ldrex_of, ldrexd_of, marked_of, succeeded_of, failed_of, strex_of, strexd_of, exclusive_of};

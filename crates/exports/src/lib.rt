@@ -1,4 +1,6 @@
 // The functions that a host in C or Rust links: the public calls on numbers, and on a machine and memory as lent bytes.
+#![tactic(auto)]
+
 ghost use Rattle.std.specs.Prelude.{◌≡◌, length};
 ghost use Rattle.exports.specs.Steps.{written_state, left_by_step, left_by_run, step_call_of, step_opcode_call_of, run_call_of};
 ghost use Rattle.exports.specs.Calls.{halves, pack_call_of, unpack_call_of, shift_immediate_call_of, shift_register_call_of};

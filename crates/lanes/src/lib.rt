@@ -1,4 +1,6 @@
 // The arithmetic of the media instructions on numbers and on four byte lanes: parallel sums, selection, packing, extension, saturation.
+#![tactic(auto)]
+
 ghost use Rattle.std.specs.Prelude.{◌≡◌, pos, ◌+ℤ◌, ◌+◌, ◌*◌, ◌%◌, ◌^◌, ◌<◌, ◌≤◌};
 ghost use Rattle.bits.specs.Cases.{when◌then◌else◌};
 ghost use Rattle.bits.specs.Integers.{signed, wrap};

@@ -1,4 +1,6 @@
 // The list of recorded answers as text: reading a line, making what its seed stands for, judging what a call left, and saying so.
+#![tactic(auto)]
+
 pub mod items;
 pub mod judge;
 pub mod make;

@@ -1,4 +1,6 @@
 // Loads and stores of one register or of a pair, on lent registers and memory.
+#![tactic(auto)]
+
 ghost use Rattle.std.specs.Prelude.{◌≡◌, ◌+◌, ◌*◌, ◌/◌, ◌%◌, ◌<◌, ◌≤◌, length};
 ghost use Rattle.memory.specs.Bytes.{Width};
 ghost use Rattle.loadstore.specs.Single.{offset_of, width_of, taken_of, load_of, source_of, store_of, single_at, single_of};

@@ -1,4 +1,6 @@
 // The ARMv6 media instructions, on lent registers.
+#![tactic(auto)]
+
 ghost use Rattle.std.specs.Prelude.{◌≡◌, ◌<◌};
 ghost use Rattle.media.specs.Media.{variant_of, operation_of, combined_of, parallel_family_of, shifted_of, packed_of, saturated_in, saturate_of, saturate16_of, extension_of, addend_of, extend_family_of, selected_of, reversal_of, packing_of, marked_in, long_in, dual_word_of, dual_long_of, most_word_of, dual_multiply_of, usad_of, media_of};
 

@@ -1,4 +1,6 @@
 // Lent bytes: the only place that reads and writes them, and that finds the address of answer 7.
+#![tactic(auto)]
+
 ghost use Rattle.std.specs.Prelude.{◌≡◌, ◌+◌, ◌*◌, ◌^◌, ◌<◌, ◌≤◌, length};
 ghost use Rattle.memory.specs.Bytes.{byte_at, half_at, word_at, put_byte, put_half, put_word, Width, read_of, written_of};
 ghost use Rattle.memory.specs.Plans.{reaches_out, outside_of, loaded_of, stored_of, load_plan_of, store_plan_of};

@@ -1,4 +1,6 @@
 // Branches, CLZ, and answers to the host.
+#![tactic(auto)]
+
 ghost use Rattle.std.specs.Prelude.{◌≡◌};
 ghost use Rattle.misc.specs.Branches.{linked, target_of, branch_of, branch_exchange_of, branch_link_exchange_of, clz_of};
 ghost use Rattle.misc.specs.Stops.{swi_of, bkpt_of, coprocessor_of, coprocessor_move_of, clrex_of};

@@ -1,4 +1,6 @@
 // MRS, MSR and CPS, on the machine by value.
+#![tactic(auto)]
+
 ghost use Rattle.std.specs.Prelude.{◌≡◌};
 ghost use Rattle.bits.specs.Cases.{when◌then◌else◌};
 ghost use Rattle.psr.specs.Status.{privileged};

@@ -1,4 +1,6 @@
 // The multiplies and the saturating sums, on lent registers.
+#![tactic(auto)]
+
 ghost use Rattle.std.specs.Prelude.{◌≡◌, ◌<◌};
 ghost use Rattle.multiply.specs.Multiply.{long_put_of, settled_of, short_of, wide_of, wide_settled_of, long_multiply_of, marked_of, halfword_of, saturating_of};
 

@@ -1,4 +1,6 @@
 // Every multiplication of the core, on numbers alone; with them the saturating sums, which share their place in the manual.
+#![tactic(auto)]
+
 ghost use Rattle.std.specs.Prelude.{◌≡◌, ◌+◌, ◌*◌, ◌^◌, ◌<◌, pos, ◌+ℤ◌, ◌*ℤ◌};
 ghost use Rattle.bits.specs.Integers.{signed};
 ghost use Rattle.bits.specs.Laws.Range.{Within};

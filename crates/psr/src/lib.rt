@@ -1,4 +1,6 @@
 // Program status records: modes, the packed word, conditions, the masked write.
+#![tactic(auto)]
+
 ghost use Rattle.std.specs.Prelude.{◌≡◌, ◌+◌, ◌*◌, ◌≤◌, ◌<◌};
 ghost use Rattle.bits.specs.Fields.{bit_of};
 ghost use Rattle.psr.specs.Status.{mode_number, mode_of, word_of, Packs, Unpacks, passed_of, privileged, written_of};

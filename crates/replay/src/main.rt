@@ -1,4 +1,6 @@
 // Replays the list of recorded answers (crates/replay/README.md): prints the first difference, or how many cases had each answer.
+#![tactic(auto)]
+
 ghost use Rattle.std.specs.Prelude.{◌≡◌, length};
 
 use listing::judge::Verdict;

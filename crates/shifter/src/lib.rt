@@ -1,4 +1,6 @@
 // The barrel shifter: shifts by an immediate and by a register, and the rotated immediate.
+#![tactic(auto)]
+
 ghost use Rattle.std.specs.Prelude.{◌≡◌, false, ◌%◌, ◌<◌, ◌≤◌};
 ghost use Rattle.shifter.specs.Shifts.{type_of, immediate_of, by_immediate_of, by_register_of, ShiftsByImmediate, ShiftsByRegister};
 ghost use Rattle.shifter.specs.Laws.Shifts.{through_of, turned_of};

@@ -1,4 +1,6 @@
 // The whole machine as 216 lent bytes and back, and an answer as 12 bytes, or 16.
+#![tactic(auto)]
+
 ghost use Rattle.std.specs.Prelude.{◌≡◌, map, ◌+◌, ◌*◌, ◌<◌, ◌≤◌, length};
 ghost use Rattle.state.specs.State.{ge_byte_of, word, words_from, record_at, tag_of, state_of, records_of, packed_word_of, ge_number_of, tag_words_of, state_bytes_of, report_bytes_of, counted_bytes_of};
 ghost use Rattle.state.specs.Laws.Words.{placed};

@@ -1,4 +1,6 @@
 // What every transfer shares: the base, its move, and write-back.
+#![tactic(auto)]
+
 ghost use Rattle.std.specs.Prelude.{◌≡◌};
 ghost use Rattle.transfer.specs.Transfers.{moved_of, address_of, based_of};
 

@@ -80,7 +80,7 @@ read_within h l k = rw (read64 h l) (record { within = le_trans h.within k })
 
 -- what a call promises of its signed result, read back
 pub read_back : {z y : ℤ} → mag z < 2 ^ 63 → z ≡ y → to_z w64 (of_z w64 z) ≡ y
-read_back h e = to_z-of_z (record { sfits = h }) ∙ e
+read_back h e = to_z-of_z {w = w64} (record { sfits = h }) ∙ e
 
 pub shr_fits : (z : ℤ) (d : ℕ) → FitsSigned w64 z → FitsSigned w64 (shr_z z d)
 shr_fits z d h = record { sfits = lt_of_le_of_lt (mag_shr z d) h.sfits }

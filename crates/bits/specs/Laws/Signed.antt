@@ -1,5 +1,5 @@
 -- The signed reading at any width, as a difference and as a bound.
-use Rattle.std.specs.Prelude.{◌≡◌, ℕ, suc, ◌+◌, ◌-◌, ◌*◌, ◌%◌, ◌^◌, ◌<◌, ◌≤◌, ◌||◌, pos, ◌-ℤ◌, nat_le, nat_lt}
+use Rattle.std.specs.Prelude.{zero, ◌≡◌, ℕ, suc, ◌+◌, ◌-◌, ◌*◌, ◌%◌, ◌^◌, ◌<◌, ◌≤◌, ◌||◌, pos, ◌-ℤ◌, nat_le, nat_lt}
 use Rattle.std.proofs.Common.{◌∙◌, ⊎_elim, arith, mod-eq_of_lt, pow-suc, pow_pos, lt-ltb, le-ltb}
 use Rattle.std.proofs.Math.IntN.{sub_ℕ}
 use Rattle.bits.specs.Cases.{if_yes, if_no}
@@ -9,6 +9,7 @@ use Rattle.bits.specs.Laws.Diff.{diff_eq, diff_pos, diff_lt_z, neg_pos, pos_sub}
 use Rattle.bits.specs.Laws.Wrap.{mod_both, wrap_diff}
 
 pub twice_half : (k : ℕ) → 0 < k → 2 ^ k ≡ 2 * 2 ^ (k - 1)
+twice_half zero h = elim h [ ]
 twice_half (suc k) h = let e : suc k - 1 ≡ k = omega arith in rw (e, pow-suc 2 k) (omega arith)
 
 module _ (k n : ℕ) where
