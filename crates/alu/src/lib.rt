@@ -6,14 +6,14 @@ ghost use Rattle.bits.specs.Laws.Signed.{lifted};
 ghost use Rattle.alu.specs.Sums.{add_of, adc_of, sub_of, sbc_of};
 ghost use Rattle.alu.specs.Saturation.{saturated_of, signed_sat_of, unsigned_sat_of};
 
-#[derive(Drop)]
+#[derive(Clone, Copy)]
 pub struct Sum {
     pub value: u32,
     pub carry: bool,
     pub overflow: bool,
 }
 
-#[derive(Drop)]
+#[derive(Clone, Copy)]
 pub struct Saturated {
     pub value: u32,
     pub saturated: bool,

@@ -13,7 +13,7 @@ use cpu::{Answer, Machine, Outcome};
 use memory::Found;
 
 // What a transfer is told: its list, the lowest address, and the moved base.
-#[derive(Drop)]
+#[derive(Clone, Copy)]
 pub struct Plan {
     pub list: u32,
     pub start: u32,
@@ -209,7 +209,7 @@ pub fn execute(regs: &mut [u32; 16], op: u32, mem: &mut [u8]) -> Outcome
 }
 
 // A machine, and Done or Bus.
-#[derive(Drop)]
+#[derive(Clone, Copy)]
 pub struct Blocked {
     pub machine: Machine,
     pub answer: Answer,

@@ -8,14 +8,14 @@ ghost use Rattle.cpu.specs.Outcomes.{leaves, nothing, flags, flags_of, sticky, l
 use psr::Status;
 
 // The exclusive tag: the address of the latest load-exclusive, or none.
-#[derive(Drop)]
+#[derive(Clone, Copy)]
 pub enum Tag {
     None,
     At(u32),
 }
 
 // The registers that the current mode sees come first: every step touches them.
-#[derive(Drop)]
+#[derive(Clone, Copy)]
 pub struct Machine {
     pub regs: [u32; 16],
     pub cpsr: Status,
@@ -30,7 +30,7 @@ pub struct Machine {
     pub tag: Tag,
 }
 
-#[derive(Drop)]
+#[derive(Clone, Copy)]
 pub enum Answer {
     Done,
     Supervisor(u32),
@@ -47,7 +47,7 @@ pub enum Answer {
 }
 
 // An answer by document 01's numbers.
-#[derive(Drop)]
+#[derive(Clone, Copy)]
 pub struct Report {
     pub number: u32,
     pub first: u32,
@@ -55,7 +55,7 @@ pub struct Report {
 }
 
 // What a family leaves for the machine to do.
-#[derive(Drop)]
+#[derive(Clone, Copy)]
 pub enum Kind {
     Nothing,
     Flags,
@@ -72,7 +72,7 @@ pub enum Kind {
 }
 
 // The values that a family seldom sets stand between the kind and the flags: side by side they would be packed into one word and taken apart again.
-#[derive(Drop)]
+#[derive(Clone, Copy)]
 pub struct Outcome {
     pub kind: Kind,
     pub at: u32,

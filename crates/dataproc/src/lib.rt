@@ -12,7 +12,7 @@ use cpu::Outcome;
 use shifter::Operand;
 
 // The two operands of an instruction, and the shifter's carry.
-#[derive(Drop)]
+#[derive(Clone, Copy)]
 pub struct Operands {
     pub first: u32,
     pub second: u32,

@@ -5,7 +5,7 @@ ghost use Rattle.std.specs.Prelude.{◌≡◌, ◌<◌};
 ghost use Rattle.bits.specs.Cases.{when◌then◌else◌};
 ghost use Rattle.decode.specs.Families.{compares_nothing, multiply_or_swap_of, miscellaneous_of, register_space_of, immediate_space_of, conditional_of, unconditional_of, family_of};
 
-#[derive(Drop)]
+#[derive(Clone, Copy)]
 pub enum Family {
     DataProcessing,
     MultiplyShort,

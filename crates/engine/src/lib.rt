@@ -11,13 +11,13 @@ ghost use Rattle.engine.specs.Laws.Walk.{lacks_next, next_op, step_by, Goes};
 
 use cpu::{Answer, Kind, Machine, Tag};
 
-#[derive(Drop)]
+#[derive(Clone, Copy)]
 pub struct Stepped {
     pub machine: Machine,
     pub answer: Answer,
 }
 
-#[derive(Drop)]
+#[derive(Clone, Copy)]
 pub struct Finished {
     pub machine: Machine,
     pub answer: Answer,
@@ -25,7 +25,7 @@ pub struct Finished {
 }
 
 // What answers 9 and 8 decide.
-#[derive(Drop)]
+#[derive(Clone, Copy)]
 pub enum Gate {
     Open,
     Shut(Answer),

@@ -11,7 +11,7 @@ ghost use Rattle.lanes.specs.Packing.{pkhbt_of, pkhtb_of, added_halves, added_of
 ghost use Rattle.lanes.specs.Saturation.{ssat_of, usat_of, ssat16_of, usat16_of, beside_of};
 
 // The manual's prefixes S, Q, SH, U, UQ, UH.
-#[derive(Drop)]
+#[derive(Clone, Copy)]
 pub enum Variant {
     Signed,
     Saturating,
@@ -22,7 +22,7 @@ pub enum Variant {
 }
 
 // Asx and Sax are ADDSUBX and SUBADDX.
-#[derive(Drop)]
+#[derive(Clone, Copy)]
 pub enum Operation {
     Add16,
     Asx,
@@ -32,7 +32,7 @@ pub enum Operation {
     Sub8,
 }
 
-#[derive(Drop)]
+#[derive(Clone, Copy)]
 pub enum Extension {
     Sxtab16,
     Sxtab,
@@ -42,14 +42,14 @@ pub enum Extension {
     Uxtah,
 }
 
-#[derive(Drop)]
+#[derive(Clone, Copy)]
 pub struct Lane {
     pub value: u32,
     pub ge: bool,
 }
 
 // Four byte lanes, the lowest first; GE, and whether the variant sets it.
-#[derive(Drop)]
+#[derive(Clone, Copy)]
 pub struct Combined {
     pub lanes: [u8; 4],
     pub ge: u8,

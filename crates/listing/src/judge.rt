@@ -5,7 +5,7 @@ ghost use Rattle.listing.specs.Verdicts.{is_same, all_same, Tells, same_answer};
 use cpu::Report;
 
 // What differs first: what was found, then what is listed; for words and bytes the place before both.
-#[derive(Drop)]
+#[derive(Clone, Copy)]
 pub enum Verdict {
     Same,
     // the line is no case

@@ -2,14 +2,14 @@
 ghost use Rattle.std.specs.Prelude.{◌≡◌, ◌<◌, ◌≤◌, length};
 ghost use Rattle.listing.specs.Digits.{digit_of};
 
-#[derive(Drop)]
+#[derive(Clone, Copy)]
 pub struct Number {
     pub value: u32,
     pub at: usize,
 }
 
 // A place and what is to stand there, `place=value`.
-#[derive(Drop)]
+#[derive(Clone, Copy)]
 pub struct Item {
     pub place: u32,
     pub value: u32,
@@ -17,7 +17,7 @@ pub struct Item {
 }
 
 // Where a line ends, and where the next begins.
-#[derive(Drop)]
+#[derive(Clone, Copy)]
 pub struct Line {
     pub end: usize,
     pub next: usize,

@@ -6,7 +6,7 @@ ghost use Rattle.memory.specs.Bytes.{byte_at, half_at, word_at, put_byte, put_ha
 ghost use Rattle.memory.specs.Plans.{reaches_out, outside_of, loaded_of, stored_of, load_plan_of, store_plan_of};
 
 // Where the accesses of a plan lie: all inside, or the address of the first that has a byte outside.
-#[derive(Drop)]
+#[derive(Clone, Copy)]
 pub enum Found {
     Inside,
     Outside(u32),

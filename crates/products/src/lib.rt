@@ -8,14 +8,14 @@ ghost use Rattle.products.specs.Products.{long_of, pair_of, sticky_of, total_of,
 ghost use Rattle.products.specs.Duals.{second_of, dual_of, smuad_of, smlad_of, smlald_of, most_of, smmul_of, smmla_of};
 
 // A result of 64 bits.
-#[derive(Drop)]
+#[derive(Clone, Copy)]
 pub struct Long {
     pub lo: u32,
     pub hi: u32,
 }
 
 // A word, and whether Q is set; where q is false Q stands.
-#[derive(Drop)]
+#[derive(Clone, Copy)]
 pub struct Sticky {
     pub value: u32,
     pub q: bool,

@@ -7,7 +7,7 @@ ghost use Rattle.psr.specs.Status.{mode_number, mode_of, word_of, Packs, Unpacks
 ghost use Rattle.psr.specs.With.{with_mode};
 ghost use Rattle.psr.specs.Laws.Parts.{flags_from, ge_from, extension_from, control_from};
 
-#[derive(Drop)]
+#[derive(Clone, Copy)]
 pub enum Mode {
     User,
     Fiq,
@@ -18,7 +18,7 @@ pub enum Mode {
     System,
 }
 
-#[derive(Drop)]
+#[derive(Clone, Copy)]
 pub struct Status {
     pub n: bool,
     pub z: bool,
@@ -35,7 +35,7 @@ pub struct Status {
 }
 
 // The answer's number and, with answer 0, the word.
-#[derive(Drop)]
+#[derive(Clone, Copy)]
 pub struct Packed {
     pub answer: u32,
     pub word: u32,

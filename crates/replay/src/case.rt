@@ -7,7 +7,7 @@ use listing::judge::Verdict;
 use listing::{items, judge, make, text};
 
 // What a line lists: the answer with its values, and the count of a run.
-#[derive(Drop)]
+#[derive(Clone, Copy)]
 struct Listed {
     report: Report,
     count: u32,

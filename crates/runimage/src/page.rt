@@ -7,7 +7,7 @@ use engine::Finished;
 use psr::{Mode, Status};
 
 // The numbers that are printed, in their order.
-#[derive(Drop)]
+#[derive(Clone, Copy)]
 pub struct Page {
     pub exit: u32,
     pub shown: u32,

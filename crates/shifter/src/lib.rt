@@ -5,7 +5,7 @@ ghost use Rattle.std.specs.Prelude.{◌≡◌, false, ◌%◌, ◌<◌, ◌≤�
 ghost use Rattle.shifter.specs.Shifts.{type_of, immediate_of, by_immediate_of, by_register_of, ShiftsByImmediate, ShiftsByRegister};
 ghost use Rattle.shifter.specs.Laws.Shifts.{through_of, turned_of};
 
-#[derive(Drop)]
+#[derive(Clone, Copy)]
 pub enum ShiftType {
     Lsl,
     Lsr,
@@ -13,7 +13,7 @@ pub enum ShiftType {
     Ror,
 }
 
-#[derive(Drop)]
+#[derive(Clone, Copy)]
 pub struct Operand {
     pub value: u32,
     pub carry: bool,
