@@ -1,0 +1,6 @@
+use Rattle.alu.specs.Laws.Sums.{add_adc}
+use Rattle.std.proofs.Common.{rules}
+use Rattle.alu.proofs.add_with_flags.Goals as goal
+
+pub returns : goal.returns
+returns c = rw (add_adc c.args.a c.args.b) c.adc_with_flags.ensures

@@ -1,0 +1,6 @@
+use Rattle.alu.specs.Laws.Sums.{sub_sbc}
+use Rattle.std.proofs.Common.{rules}
+use Rattle.alu.proofs.sub_with_flags.Goals as goal
+
+pub returns : goal.returns
+returns c = rw (sub_sbc c.args.a c.args.b) c.sbc_with_flags.ensures

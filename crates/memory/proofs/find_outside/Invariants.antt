@@ -1,0 +1,10 @@
+use mathlib.Core.Path.{◌≡◌, refl, sym, ◌∙◌}
+use Rattle.memory.specs.Plans.{outside_of}
+use Rattle.memory.specs.Laws.Plans.{out_here, out_later, out_none}
+use Rattle.memory.proofs.find_outside.Given as goal
+
+abbrev pub invariant-loop-left : goal.invariant-loop-left
+invariant-loop-left l = outside_of l.len l.address l.width l.count ≡ outside_of l.len l.at l.width l.left
+
+abbrev pub decreases-loop-left : goal.decreases-loop-left
+decreases-loop-left l = l.left

@@ -1,0 +1,12 @@
+use Prim.Native.Nat.{◌-◌}
+use mathlib.Core.Path.{◌≡◌}
+use native.Mathlib.Omega.{arith}
+use lib.ListN.{length}
+use Rattle.memory.specs.Laws.Plans.{Storing, storing_first, storing_here, storing_next, storing_last}
+use Rattle.memory.proofs.store_words.Given as goal
+
+abbrev pub invariant-loop-i : goal.invariant-loop-i
+invariant-loop-i l = Storing l.initial.mem l.at l.count l.values l.mem l.a l.i × (length l.mem ≡ length l.initial.mem)
+
+abbrev pub decreases-loop-i : goal.decreases-loop-i
+decreases-loop-i l = l.count - l.i

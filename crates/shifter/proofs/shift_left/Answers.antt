@@ -1,0 +1,6 @@
+use Rattle.shifter.specs.Laws.Shifts.{left_is}
+use Rattle.std.proofs.Common.{rules}
+use Rattle.shifter.proofs.shift_left.Goals as goal
+
+pub returns : goal.returns
+returns c = left_is c.args.x c.args.n c.ranges.x.fits c.requires.1
