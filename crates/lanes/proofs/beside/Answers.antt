@@ -1,0 +1,8 @@
+use mathlib.Core.Path.{refl}
+use Rattle.lanes.specs.Saturation.{beside_of}
+use Rattle.std.proofs.Common.{rules}
+use Rattle.lanes.proofs.beside.Goals as goal
+
+pub returns : goal.returns
+unfolding beside_of
+returns c = refl

@@ -1,0 +1,7 @@
+use Rattle.lanes.specs.Bytes.{usada8_of}
+use Rattle.std.proofs.Common.{rules}
+use Rattle.lanes.proofs.usada8.Goals as goal
+
+pub returns : goal.returns
+unfolding usada8_of
+returns c = rw (c.wrapping_add.ensures, c.usad8.ensures.0)

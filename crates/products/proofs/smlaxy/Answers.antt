@@ -1,0 +1,9 @@
+use Rattle.std.proofs.Common.{lit<, rules}
+use Rattle.bits.specs.Laws.Range.{is_add, fit_add, heard}
+use Rattle.products.specs.Products.{smlaxy_of}
+use Rattle.products.proofs.smlaxy.Goals as goal
+
+pub returns : goal.returns
+unfolding smlaxy_of
+returns c =
+    rw (c.mark.ensures, (is_add (heard c.halves.ensures (lit< tt)) (heard c.signed_word.ensures (lit< tt)) (lit< tt)).same)
