@@ -1,0 +1,12 @@
+use Rattle.bits.specs.Cases.{cases}
+use Rattle.media.specs.Media.{usad_of}
+use Rattle.std.proofs.Common.{rules}
+use Rattle.media.proofs.usad8.Goals as goal
+
+pub returns-then-op-eq15 : goal.returns-then-op-eq15
+unfolding usad_of
+returns-then-op-eq15 c = rw (c.put.ensures, c.usad8.ensures.0, c.split-s.ensures, c.split-m.ensures) (search cases)
+
+pub returns-else-op-eq15 : goal.returns-else-op-eq15
+unfolding usad_of
+returns-else-op-eq15 c = rw (c.put-else-op-eq15.ensures, c.usada8.ensures, c.split-s.ensures, c.split-m.ensures) (search cases)
