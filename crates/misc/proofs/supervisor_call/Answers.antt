@@ -1,0 +1,7 @@
+use Rattle.misc.specs.Stops.{swi_of}
+use Rattle.std.proofs.Common.{rules}
+use Rattle.misc.proofs.supervisor_call.Goals as goal
+
+pub returns : goal.returns
+unfolding swi_of
+returns c = rw (c.call.ensures, c.wrapping_sub.ensures)
