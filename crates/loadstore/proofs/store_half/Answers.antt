@@ -1,0 +1,16 @@
+use mathlib.Core.Path.{sym, ◌∙◌}
+use Rattle.memory.specs.Laws.Plans.{reached}
+use Rattle.transfer.specs.Laws.Guards.{guard_shut, guard_open}
+use Rattle.std.proofs.Common.{rules}
+use Rattle.loadstore.proofs.store_half.Goals as goal
+
+pub returns-then-reaches_out : goal.returns-then-reaches_out
+returns-then-reaches_out c =
+    let e = sym c.reaches_out.ensures ∙ c.if-reaches_out.true in
+    rw (c.stop_with.ensures, guard_shut)
+
+pub returns-else-reaches_out : goal.returns-else-reaches_out
+returns-else-reaches_out c =
+    let s = c.before.before in
+    let e = sym c.reaches_out.ensures ∙ c.if-reaches_out.false in
+    rw guard_open c.store_one.ensures

@@ -1,0 +1,12 @@
+use Rattle.bits.specs.Cases.{cases}
+use Rattle.loadstore.specs.Single.{taken_of}
+use Rattle.std.proofs.Common.{rules}
+use Rattle.loadstore.proofs.take.Goals as goal
+
+pub returns-then-rd-eq15 : goal.returns-then-rd-eq15
+unfolding taken_of
+returns-then-rd-eq15 c = search cases
+
+pub returns-else-rd-eq15 : goal.returns-else-rd-eq15
+unfolding taken_of
+returns-else-rd-eq15 c = search cases
