@@ -97,14 +97,14 @@ loaded_from put x l at [] = x
 loaded_from put x l at (r ∷ rest) = loaded_from put (put x r (word_at l at)) l ((at + 4) % 2 ^ 32) rest
 
 module _ {A : Type 0} (put : A → ℕ → ℕ → A) where
-  loaded_from : (x : A) (l : List ℕ) (at : ℕ) (rs : List ℕ) → put_each put x rs (words_at l (accesses_of at 4 (length rs))) ≡ loaded_from put x l at rs
+  loaded_from_lem : (x : A) (l : List ℕ) (at : ℕ) (rs : List ℕ) → put_each put x rs (words_at l (accesses_of at 4 (length rs))) ≡ loaded_from put x l at rs
   unfolding put_each words_at accesses_of loaded_from
-  loaded_from x l at [] = refl
-  loaded_from x l at (r ∷ rs) = loaded_from (put x r (word_at l at)) l ((at + 4) % 2 ^ 32) rs
+  loaded_from_lem x l at [] = refl
+  loaded_from_lem x l at (r ∷ rs) = loaded_from_lem (put x r (word_at l at)) l ((at + 4) % 2 ^ 32) rs
 
   pub loaded_is : (p : Plan) (x : A) (l : List ℕ) → p.list < 2 ^ 16 → loaded_list_of p put x l ≡ loaded_from put x l p.start (rest_of 0 p.list)
   loaded_is p x l h =
-      rw (halved_is p.list, count_rest p.list h) (loaded_from x l p.start (rest_of 0 p.list))
+      rw (halved_is p.list, count_rest p.list h) (loaded_from_lem x l p.start (rest_of 0 p.list))
 
 -- A load under way, into registers or a machine.
 pub record Loading {A : Type 0} (put : A → ℕ → ℕ → A) (before : A) (l : List ℕ) (at list : ℕ) (x : A) (rest a i : ℕ) : Type 0 where

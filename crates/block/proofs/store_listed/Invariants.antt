@@ -1,0 +1,11 @@
+use mathlib.Core.Path.{sym, ◌∙◌}
+use native.Mathlib.Omega.{arith}
+use lib.ListN.{get_or}
+use Rattle.block.specs.Laws.Loops.{Storing, storing_first, storing_set, storing_clear, storing_last, under_reach, under_here, stored_is}
+use Rattle.block.proofs.store_listed.Given as goal
+
+abbrev pub invariant-loop-rest : goal.invariant-loop-rest
+invariant-loop-rest l = Storing (λ r. get_or l.values r 0) l.initial.mem l.initial.a l.initial.rest l.mem l.rest l.a l.i
+
+abbrev pub decreases-loop-rest : goal.decreases-loop-rest
+decreases-loop-rest l = l.rest
