@@ -1,0 +1,14 @@
+use mathlib.Core.Path.{◌≡◌, refl, sym, ap, ◌∙◌}
+use native.Mathlib.Omega.{arith}
+use Prim.Native.Nat.{ℕ, ◌+◌, ◌-◌, ◌^◌, ◌<◌, ◌≤◌}
+use lib.ListN.{length}
+use Rattle.engine.specs.Run.{ended_of, go_of}
+use Rattle.engine.specs.Laws.Gate.{gated_by}
+use Rattle.engine.specs.Laws.Going.{go_on, go_stop, go_none}
+use Rattle.engine.proofs.run_plain.Given as goal
+
+abbrev pub invariant-loop-k : goal.invariant-loop-k
+invariant-loop-k l = (l.k ≤ l.budget) × (length l.mem ≡ length l.initial.mem) × (go_of l.budget 0 l.initial.cur l.initial.mem ≡ go_of (l.budget - l.k) l.k l.cur l.mem)
+
+abbrev pub decreases-loop-k : goal.decreases-loop-k
+decreases-loop-k l = l.budget - l.k
