@@ -3,7 +3,7 @@ use Rattle.std.specs.Prelude.{◌≡◌, Bool, List, [], ◌∷◌, ◌↔◌, �
 use Rattle.std.proofs.Math.Path.{refl}
 use Rattle.std.proofs.Common.{sym, ap, subst, ◌∙◌, true≢false, ltb-true, lt-ltb, le-ltb, eqb-true, eq-eqb, ne_eqb}
 use Rattle.std.proofs.Math.Bool.{true, false, false≢true}
-use Rattle.std.proofs.Math.Logic.{Iff·rfl}
+use mathlib.Core.Logic.Iff.{rfl}
 use Rattle.std.proofs.Math.ListN.{length}
 use Rattle.bits.specs.Cases.{when◌then◌else◌, if_yes, if_no, if_both, ◌<?◌}
 use Rattle.memory.specs.Bytes.{word_at}
@@ -229,13 +229,13 @@ module _ (m : Machine) (l : List ℕ) where
   step_order =
       let op = word_at l (next_of m) in
       in_order m l (executed_of m op l) (next_of m) (65536 <? length l) (bad_of m) m.cpsr.t (fetches l (next_of m))
-      (long_test l) (bad_test m) Iff·rfl (fetch_test m l) (own m op l)
+      (long_test l) (bad_test m) rfl (fetch_test m l) (own m op l)
 
   given_order : (op : ℕ) → InOrder (TooLong l) (Bad m) (InThumb m) ⊥ (number_of (step_with_of m op l).0.answer)
   unfolding step_with_of given_of gated_of when◌then◌else◌
   given_order op =
       in_order m l (executed_of m op l) 0 (65536 <? length l) (bad_of m) m.cpsr.t true
-      (long_test l) (bad_test m) Iff·rfl (neither (λ z. z) true≢false) (own m op l)
+      (long_test l) (bad_test m) rfl (neither (λ z. z) true≢false) (own m op l)
 
   -- a step x that executes op where it is reached
   module _ (unfetched : Type 0) (op : ℕ) (x : Stepped × List ℕ) (order : InOrder (TooLong l) (Bad m) (InThumb m) unfetched (number_of x.0.answer))
