@@ -6,8 +6,6 @@ use Rattle.banks.proofs.enter.Goals as goal
 pub returns : goal.returns
 unfolding entered_of saved_kept fiq_kept user_kept regs_taken spsr_taken saved_at taken_at
 returns c =
-    let five = c.before.before.before.before in
-    let kept = five.before.before.before in
     rw (
       c.with_mode-cpsr.ensures,
       c.take_five-taken.ensures,

@@ -1,7 +1,6 @@
-use mathlib.Core.Path.{◌∙◌}
 use Rattle.block.specs.Block.{load_of}
 use Rattle.transfer.specs.Laws.Guards.{beside_is}
-use Rattle.std.proofs.Common.{rules}
+use Rattle.std.proofs.Common.{rules, ◌∙◌}
 use Rattle.block.proofs.load.Goals as goal
 
 pub returns : goal.returns

@@ -1,8 +1,5 @@
-use mathlib.Core.Path.{sym, ◌∙◌}
-use native.Mathlib.Omega.{arith}
-use lib.ListN.{set}
 use Rattle.block.specs.Laws.Loops.{Loading, loading_first, loading_set, loading_clear, loading_last, under_reach, under_here, loaded_is}
-use Rattle.std.proofs.Common.{rules}
+use Rattle.std.proofs.Common.{rules, sym, ◌∙◌, arith, set}
 use Rattle.block.proofs.load_listed.Goals as goal
 
 pub loop-rest-init : goal.loop-rest-init

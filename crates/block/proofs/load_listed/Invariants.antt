@@ -1,6 +1,4 @@
-use mathlib.Core.Path.{sym, ◌∙◌}
-use native.Mathlib.Omega.{arith}
-use lib.ListN.{set}
+use Rattle.std.proofs.Common.{sym, ◌∙◌, arith, set}
 use Rattle.block.specs.Laws.Loops.{Loading, loading_first, loading_set, loading_clear, loading_last, under_reach, under_here, loaded_is}
 use Rattle.block.proofs.load_listed.Given as goal
 

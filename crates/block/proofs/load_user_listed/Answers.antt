@@ -1,8 +1,6 @@
-use mathlib.Core.Path.{sym, ◌∙◌}
-use native.Mathlib.Omega.{arith}
 use Rattle.banks.specs.Banks.{with_user_reg}
 use Rattle.block.specs.Laws.Loops.{Loading, loading_first, loading_set, loading_clear, loading_last, under_reach, under_here, loaded_is}
-use Rattle.std.proofs.Common.{rules}
+use Rattle.std.proofs.Common.{rules, sym, ◌∙◌, arith}
 use Rattle.block.proofs.load_user_listed.Goals as goal
 
 pub loop-rest-init : goal.loop-rest-init
@@ -19,7 +17,6 @@ overflow_add-i c = omega (arith, under_reach c.loop-rest.invariant.under c.loop-
 
 pub loop-rest-preserved-then-rest-eq1 : goal.loop-rest-preserved-then-rest-eq1
 loop-rest-preserved-then-rest-eq1 c =
-    let b = c.before.before.before in
     rw (c.write_user_reg-out.ensures, c.read32.ensures, c.wrapping_add-a.ensures)
     (loading_set c.loop-rest.invariant c.loop-rest-test.true c.if-rest-eq1.true)
 

@@ -1,8 +1,5 @@
-use mathlib.Core.Path.{sym, ◌∙◌}
-use native.Mathlib.Omega.{arith}
-use lib.ListN.{get_or}
 use Rattle.block.specs.Laws.Loops.{Storing, storing_first, storing_set, storing_clear, storing_last, under_reach, under_here, stored_is}
-use Rattle.std.proofs.Common.{rules}
+use Rattle.std.proofs.Common.{rules, sym, ◌∙◌, arith, get_or}
 use Rattle.block.proofs.store_listed.Goals as goal
 
 pub loop-rest-init : goal.loop-rest-init
@@ -24,8 +21,6 @@ overflow_add-i c =
 
 pub loop-rest-preserved-then-rest-eq1 : goal.loop-rest-preserved-then-rest-eq1
 loop-rest-preserved-then-rest-eq1 c =
-    let w = c.before.before.before in
-    let b = w.before.before.before in
     rw (c.write32.ensures, c.wrapping_add-a.ensures) (storing_set c.loop-rest.invariant c.loop-rest-test.true c.if-rest-eq1.true)
 
 pub overflow_add-i-else-rest-eq1 : goal.overflow_add-i-else-rest-eq1

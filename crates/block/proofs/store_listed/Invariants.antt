@@ -1,6 +1,4 @@
-use mathlib.Core.Path.{sym, ◌∙◌}
-use native.Mathlib.Omega.{arith}
-use lib.ListN.{get_or}
+use Rattle.std.proofs.Common.{sym, ◌∙◌, arith, get_or}
 use Rattle.block.specs.Laws.Loops.{Storing, storing_first, storing_set, storing_clear, storing_last, under_reach, under_here, stored_is}
 use Rattle.block.proofs.store_listed.Given as goal
 

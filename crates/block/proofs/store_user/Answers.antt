@@ -7,6 +7,4 @@ use Rattle.block.proofs.store_user.Goals as goal
 pub returns : goal.returns
 unfolding user_store_of
 returns c =
-    let m = c.before.before.before.before.before.before in
-    let v = m.before.before.before in
     rw (c.move_on.ensures, c.write_back.ensures, c.store_listed.ensures, stored_values c.args.p (user_reg_of c.args.m) _ _ c.take_user-values.ensures)

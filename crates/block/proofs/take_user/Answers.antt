@@ -1,10 +1,6 @@
-use Prim.Native.Nat.{◌-◌}
-use mathlib.Core.Path.{◌≡◌, refl, ◌∙◌}
-use native.Mathlib.Omega.{arith}
-use lib.ListN.{length, length-set}
 use Rattle.banks.specs.Banks.{user_reg_of}
 use Rattle.block.specs.Laws.Sources.{Values, values_next}
-use Rattle.std.proofs.Common.{rules}
+use Rattle.std.proofs.Common.{rules, ◌-◌, ◌≡◌, refl, ◌∙◌, arith, length, length-set}
 use Rattle.block.proofs.take_user.Goals as goal
 
 pub loop-i-init : goal.loop-i-init
@@ -18,4 +14,4 @@ loop-i-preserved c =
     )
 
 pub returns : goal.returns
-returns c r h = let k = c.loop-i-test.false in c.loop-i.invariant.1 r (omega arith)
+returns c r h = c.loop-i.invariant.1 r (omega arith)

@@ -1,7 +1,4 @@
-use Prim.Native.Nat.{◌-◌}
-use mathlib.Core.Path.{◌≡◌, refl, ◌∙◌}
-use native.Mathlib.Omega.{arith}
-use lib.ListN.{length, length-set}
+use Rattle.std.proofs.Common.{◌-◌, ◌≡◌, refl, ◌∙◌, arith, length, length-set}
 use Rattle.banks.specs.Banks.{user_reg_of}
 use Rattle.block.specs.Laws.Sources.{Values, values_next}
 use Rattle.block.proofs.take_user.Given as goal

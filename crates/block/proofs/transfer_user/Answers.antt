@@ -1,6 +1,5 @@
-use mathlib.Core.Path.{sym, ◌∙◌}
 use Rattle.block.specs.Laws.Ways.{moves_user, refuses_user}
-use Rattle.std.proofs.Common.{rules}
+use Rattle.std.proofs.Common.{rules, sym, ◌∙◌}
 use Rattle.block.proofs.transfer_user.Goals as goal
 
 pub move_user-machine-requires : goal.move_user-machine-requires
@@ -9,11 +8,8 @@ move_user-machine-requires c =
 
 pub returns-in-Inside : goal.returns-in-Inside
 returns-in-Inside c =
-    let u = c.before.before in
-    let n = u.before.before.before.before in
     moves_user c.args.m c.args.op _ c.make_plan-p.ensures.0 (sym c.find_outside-found.ensures ∙ c.in-Inside.is) c.move_user-machine.ensures
 
 pub returns-in-Outside : goal.returns-in-Outside
 returns-in-Outside c =
-    let n = c.before.before.before in
     refuses_user c.args.m c.args.op _ c.make_plan-p.ensures.0 _ (sym c.find_outside-found.ensures ∙ c.in-Outside.is)

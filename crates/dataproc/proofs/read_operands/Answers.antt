@@ -1,8 +1,7 @@
-use native.Mathlib.Omega.{arith}
 use Rattle.bits.specs.Cases.{cases}
 use Rattle.dataproc.specs.Dataproc.{operand_of}
 use Rattle.dataproc.specs.Laws.Operands.{plain, by_register, by_immediate, first_immediate, first_early, first_late}
-use Rattle.std.proofs.Common.{rules}
+use Rattle.std.proofs.Common.{rules, arith}
 use Rattle.dataproc.proofs.read_operands.Goals as goal
 
 pub returns-then-op-eq1 : goal.returns-then-op-eq1
@@ -12,7 +11,6 @@ returns-then-op-eq1 c =
 
 pub returns-then-op-eq0 : goal.returns-then-op-eq0
 returns-then-op-eq0 c =
-    let i = c.before.before in
     rw (
       c.join_operands-then-op-eq0.ensures,
       ← plain c.args.regs.now c.args.op c.args.c c.if-op-eq1.false c.if-op-eq0.true,
@@ -21,7 +19,6 @@ returns-then-op-eq0 c =
 
 pub returns-then-op-eq1-2 : goal.returns-then-op-eq1-2
 returns-then-op-eq1-2 c =
-    let i = c.before in
     rw (
       c.read_operands_late.ensures,
       by_register c.args.regs.now c.args.op c.args.c c.if-op-eq1.false c.if-op-eq1-2.true,
@@ -30,7 +27,6 @@ returns-then-op-eq1-2 c =
 
 pub returns-else-op-eq1-2 : goal.returns-else-op-eq1-2
 returns-else-op-eq1-2 c =
-    let i = c.before.before.before.before in
     rw (
       c.join_operands-else-op-eq1-2.ensures,
       c.by_immediate.ensures,

@@ -1,7 +1,4 @@
-use mathlib.Core.Path.{◌≡◌, refl, sym, ap, ◌∙◌}
-use mathlib.Core.List.{List}
-use native.Mathlib.Omega.{arith}
-use Prim.Native.Nat.{ℕ, ◌+◌, ◌-◌, ◌^◌, ◌<◌}
+use Rattle.std.proofs.Common.{◌≡◌, refl, sym, ap, ◌∙◌, List, arith, ℕ, ◌+◌, ◌-◌, ◌^◌, ◌<◌}
 use Rattle.cpu.specs.declared.Kind.TheVariants as kind
 use Rattle.cpu.specs.Answers.{is_call}
 use Rattle.engine.specs.declared.Stepped.{Stepped}

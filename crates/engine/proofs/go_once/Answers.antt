@@ -1,6 +1,5 @@
-use mathlib.Core.Path.{ap, ◌∙◌}
 use Rattle.engine.specs.Laws.Walk.{end_of, walk_of_one}
-use Rattle.std.proofs.Common.{rules}
+use Rattle.std.proofs.Common.{rules, ap, ◌∙◌}
 use Rattle.engine.proofs.go_once.Goals as goal
 
 pub returns : goal.returns

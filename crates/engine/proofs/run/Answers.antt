@@ -1,6 +1,5 @@
-use mathlib.Core.Path.{sym, ◌∙◌}
 use Rattle.engine.specs.Laws.Walk.{run_timed, run_ended, run_shut}
-use Rattle.std.proofs.Common.{rules}
+use Rattle.std.proofs.Common.{rules, sym, ◌∙◌}
 use Rattle.engine.proofs.run.Goals as goal
 
 pub go-f-requires : goal.go-f-requires

@@ -1,11 +1,7 @@
-use mathlib.Core.Path.{◌≡◌, refl, sym, ap, ◌∙◌}
-use native.Mathlib.Omega.{arith}
-use Prim.Native.Nat.{ℕ, ◌+◌, ◌-◌, ◌^◌, ◌<◌, ◌≤◌}
-use lib.ListN.{length}
 use Rattle.engine.specs.Run.{ended_of, go_of}
 use Rattle.engine.specs.Laws.Gate.{gated_by}
 use Rattle.engine.specs.Laws.Going.{go_on, go_stop, go_none}
-use Rattle.std.proofs.Common.{rules}
+use Rattle.std.proofs.Common.{rules, ◌≡◌, refl, sym, ap, ◌∙◌, arith, ℕ, ◌+◌, ◌-◌, ◌^◌, ◌<◌, ◌≤◌, length}
 use Rattle.engine.proofs.run_plain.Goals as goal
 
 pub loop-k-init : goal.loop-k-init
@@ -26,7 +22,6 @@ loop-k-smaller c =
 
 pub loop-k-preserved : goal.loop-k-preserved
 loop-k-preserved c =
-    let T = c.before.before.before.before.before in
     let I = c.loop-k in
     let h : I.k + 1 ≤ c.args.budget = omega (arith, c.loop-k-test.true) in
     (h, c.step-s.auto.mem ∙ I.invariant.1, I.invariant.2 ∙ go_on _ _ I.cur I.mem c.loop-k-test.true c.step-s.ensures (sym c.is_done.ensures ∙ c.if-is_done.true))
@@ -39,7 +34,6 @@ overflow_add-count c =
 
 pub returns-else-is_done : goal.returns-else-is_done
 returns-else-is_done c =
-    let T = c.before.before.before.before.before.before.before in
     let I = c.loop-k in
     let stopped = sym c.is_done.ensures ∙ c.if-is_done.false in
     rw (c.bit_of.ensures.0, c.is_call-call.ensures)

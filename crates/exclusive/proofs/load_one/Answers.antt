@@ -1,14 +1,12 @@
-use mathlib.Core.Path.{sym, ◌∙◌}
 use Rattle.memory.specs.Laws.Plans.{told_inside}
 use Rattle.exclusive.specs.Exclusive.{ldrex_of}
 use Rattle.transfer.specs.Laws.Guards.{guard_open, guard_shut, beside_is}
-use Rattle.std.proofs.Common.{rules}
+use Rattle.std.proofs.Common.{rules, sym, ◌∙◌}
 use Rattle.exclusive.proofs.load_one.Goals as goal
 
 pub returns-then-reaches_out : goal.returns-then-reaches_out
 unfolding ldrex_of
 returns-then-reaches_out c =
-    let t = c.before in
     let a = c.args in
     rw (c.stop_with.ensures, ← c.size_width-width.ensures.0)
     (sym (guard_shut _ _ _ a.regs.now a.mem.now _ (sym c.reaches_out.ensures ∙ c.if-reaches_out.true)))
@@ -16,7 +14,6 @@ returns-then-reaches_out c =
 pub returns-else-reaches_out : goal.returns-else-reaches_out
 unfolding ldrex_of
 returns-else-reaches_out c =
-    let t = c.before.before.before in
     let a = c.args in
     rw (← c.size_width-width.ensures.0, ← c.load-value.ensures)
     (beside_is c.give_tagged.ensures ∙ sym (guard_open _ _ _ a.regs.now a.mem.now _ (sym c.reaches_out.ensures ∙ c.if-reaches_out.false)))

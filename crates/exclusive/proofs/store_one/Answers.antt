@@ -1,15 +1,13 @@
-use mathlib.Core.Path.{sym, ◌∙◌}
 use Rattle.bits.specs.Cases.{when◌then◌else◌}
 use Rattle.memory.specs.Laws.Plans.{told_inside}
 use Rattle.exclusive.specs.Exclusive.{strex_of}
 use Rattle.transfer.specs.Laws.Guards.{guard_open, guard_shut, beside_is}
-use Rattle.std.proofs.Common.{rules}
+use Rattle.std.proofs.Common.{rules, sym, ◌∙◌}
 use Rattle.exclusive.proofs.store_one.Goals as goal
 
 pub returns-then-reaches_out : goal.returns-then-reaches_out
 unfolding strex_of when◌then◌else◌
 returns-then-reaches_out c =
-    let t = c.before in
     let a = c.args in
     rw (c.if-succeeds.true, c.stop_with.ensures, ← c.size_width-width.ensures.0)
     (sym (guard_shut _ _ _ a.regs.now a.mem.now _ (sym c.reaches_out.ensures ∙ c.if-reaches_out.true)))
@@ -17,8 +15,6 @@ returns-then-reaches_out c =
 pub returns-else-reaches_out : goal.returns-else-reaches_out
 unfolding strex_of when◌then◌else◌
 returns-else-reaches_out c =
-    let s = c.before.before.before.before in
-    let t = s.before.before.before in
     let a = c.args in
     rw (c.if-succeeds.true, ← c.size_width-width.ensures.0, c.store.ensures)
     (beside_is c.succeed.ensures ∙ sym (guard_open _ _ _ a.regs.now a.mem.now _ (sym c.reaches_out.ensures ∙ c.if-reaches_out.false)))

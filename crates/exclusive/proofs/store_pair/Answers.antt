@@ -1,11 +1,9 @@
-use mathlib.Core.Path.{sym, ◌∙◌}
-use borrow.Author.Tests.{ne_eqb}
 use Rattle.bits.specs.Cases.{when◌then◌else◌}
 use Rattle.memory.specs.Laws.Bytes.{length_word}
 use Rattle.memory.specs.Laws.Plans.{inside_two}
 use Rattle.exclusive.specs.Exclusive.{strexd_of}
 use Rattle.transfer.specs.Laws.Guards.{guarded_inside, guarded_outside, beside_is}
-use Rattle.std.proofs.Common.{rules}
+use Rattle.std.proofs.Common.{rules, sym, ◌∙◌, ne_eqb}
 use Rattle.exclusive.proofs.store_pair.Goals as goal
 
 pub write32-requires : goal.write32-requires
@@ -13,7 +11,6 @@ write32-requires c = (inside_two _ _ _ (sym c.find_outside-found.ensures ∙ c.i
 
 pub write32-requires-in-Inside : goal.write32-requires-in-Inside
 write32-requires-in-Inside c =
-    let s = c.before.before.before.before.before in
     rw (c.wrapping_add.ensures, c.write32.ensures, length_word) (inside_two _ _ _ (sym c.find_outside-found.ensures ∙ c.in-Inside.is)).1
 
 pub returns-then-rm-eq15 : goal.returns-then-rm-eq15
@@ -23,11 +20,6 @@ returns-then-rm-eq15 c = rw c.if-rm-eq15.true (beside_is c.refuse.ensures)
 pub returns-in-Inside : goal.returns-in-Inside
 unfolding strexd_of when◌then◌else◌
 returns-in-Inside c =
-    let s = c.before.before.before.before in
-    let p = s.before.before in
-    let v = p.before.before.before.before in
-    let t = v.before.before.before in
-    let f = t.before.before in
     let a = c.args in
     rw (ne_eqb _ _ c.if-rm-eq15.false, c.if-succeeds.true, c.write32-in-Inside.ensures, c.wrapping_add.ensures, c.write32.ensures)
     (beside_is c.succeed.ensures ∙ sym (guarded_inside a.regs.now a.mem.now _ _ (sym c.find_outside-found.ensures ∙ c.in-Inside.is)))
@@ -35,8 +27,6 @@ returns-in-Inside c =
 pub returns-in-Outside : goal.returns-in-Outside
 unfolding strexd_of when◌then◌else◌
 returns-in-Outside c =
-    let t = c.before.before in
-    let f = t.before.before in
     let a = c.args in
     rw (ne_eqb _ _ c.if-rm-eq15.false, c.if-succeeds.true, c.stop_with.ensures)
     (sym (guarded_outside a.regs.now a.mem.now _ _ _ (sym c.find_outside-found.ensures ∙ c.in-Outside.is)))

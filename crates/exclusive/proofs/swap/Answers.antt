@@ -1,8 +1,7 @@
-use mathlib.Core.Path.{sym, ◌∙◌}
 use Rattle.memory.specs.Laws.Plans.{told_inside}
 use Rattle.exclusive.specs.Exclusive.{swap_of}
 use Rattle.transfer.specs.Laws.Guards.{guard_open, guard_shut, beside_is}
-use Rattle.std.proofs.Common.{rules}
+use Rattle.std.proofs.Common.{rules, sym, ◌∙◌}
 use Rattle.exclusive.proofs.swap.Goals as goal
 
 pub returns-then-reaches_out : goal.returns-then-reaches_out
@@ -15,7 +14,6 @@ returns-then-reaches_out c =
 pub returns-else-reaches_out : goal.returns-else-reaches_out
 unfolding swap_of
 returns-else-reaches_out c =
-    let s = c.before.before.before.before in
     let a = c.args in
     rw (← c.swap_width-width.ensures.0, c.store.ensures, ← c.load-old.ensures)
     (beside_is c.land.ensures ∙ sym (guard_open _ _ _ a.regs.now a.mem.now _ (sym c.reaches_out.ensures ∙ c.if-reaches_out.false)))

@@ -1,13 +1,11 @@
-use mathlib.Core.Path.{sym, ◌∙◌}
 use Rattle.exports.specs.Steps.{run_call_of}
 use Rattle.exports.specs.Laws.Measured.{both_fit, answer_unfit, bytes_unfit, run_beside}
-use Rattle.std.proofs.Common.{rules}
+use Rattle.std.proofs.Common.{rules, sym, ◌∙◌}
 use Rattle.exports.proofs.tholungdek_run.Goals as goal
 
 pub returns-then-answer-eq16 : goal.returns-then-answer-eq16
 unfolding run_call_of
 returns-then-answer-eq16 c =
-    let S = c.before.before.before.before.before.before.before.before.before in
     let a = c.args in
     run_beside a.bytes.now c.leave_run.ensures (rw c.read_state-m.ensures at c.run-f.ensures)
     ∙ sym (both_fit 16 a.bytes.now a.memory.now a.answer.now _ c.if-bytes-eq216.true c.if-answer-eq16.true)

@@ -1,13 +1,11 @@
-use mathlib.Core.Path.{sym, ◌∙◌}
 use Rattle.exports.specs.Steps.{step_call_of}
 use Rattle.exports.specs.Laws.Measured.{both_fit, answer_unfit, bytes_unfit, step_beside}
-use Rattle.std.proofs.Common.{rules}
+use Rattle.std.proofs.Common.{rules, sym, ◌∙◌}
 use Rattle.exports.proofs.tholungdek_step.Goals as goal
 
 pub returns-then-answer-eq12 : goal.returns-then-answer-eq12
 unfolding step_call_of
 returns-then-answer-eq12 c =
-    let S = c.before.before.before.before.before.before.before.before.before in
     let a = c.args in
     step_beside a.bytes.now c.leave_step.ensures (rw c.read_state-m.ensures at c.step-s.ensures)
     ∙ sym (both_fit 12 a.bytes.now a.memory.now a.answer.now _ c.if-bytes-eq216.true c.if-answer-eq12.true)

@@ -1,9 +1,6 @@
-use Prim.Native.Nat.{◌/◌, ◌%◌}
-use lib.Dec.{lit<, lit≤}
-use native.Mathlib.Omega.{arith}
 use Rattle.bits.specs.Laws.Range.{is_nat, told, read_back, read_within}
 use Rattle.lanes.specs.Packing.{added_of}
-use Rattle.std.proofs.Common.{rules}
+use Rattle.std.proofs.Common.{rules, ◌/◌, ◌%◌, lit<, lit≤, arith}
 use Rattle.lanes.proofs.add_extended.Goals as goal
 
 pub returns-in-Sxtab16 : goal.returns-in-Sxtab16

@@ -1,6 +1,5 @@
-use mathlib.Core.Path.{refl}
 use Rattle.lanes.specs.Saturation.{beside_of}
-use Rattle.std.proofs.Common.{rules}
+use Rattle.std.proofs.Common.{rules, refl}
 use Rattle.lanes.proofs.beside.Goals as goal
 
 pub returns : goal.returns

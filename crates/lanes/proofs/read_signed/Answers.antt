@@ -1,7 +1,6 @@
-use lib.Dec.{lit<}
 use Rattle.bits.specs.Laws.Range.{fit_is, is_again, told}
 use Rattle.lanes.specs.Laws.Lanes.{is_low, is_high}
-use Rattle.std.proofs.Common.{rules}
+use Rattle.std.proofs.Common.{rules, lit<}
 use Rattle.lanes.proofs.read_signed.Goals as goal
 
 pub returns-then-x-power : goal.returns-then-x-power

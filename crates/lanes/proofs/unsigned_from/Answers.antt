@@ -1,9 +1,6 @@
-use mathlib.Core.Path.{refl}
-use native.Mathlib.Omega.{arith}
-use lib.Pow.{pow_mono}
 use Rattle.bits.specs.Cases.{when◌then◌else◌}
 use Rattle.lanes.specs.Parallel.{unsigned_from}
-use Rattle.std.proofs.Common.{rules}
+use Rattle.std.proofs.Common.{rules, refl, arith, pow_mono}
 use Rattle.lanes.proofs.unsigned_from.Goals as goal
 
 pub returns-then-sub : goal.returns-then-sub

@@ -1,9 +1,7 @@
-use mathlib.Core.Path.{sym, ◌∙◌}
-use native.Mathlib.Omega.{arith}
 use Rattle.memory.specs.Laws.Plans.{inside_two}
 use Rattle.transfer.specs.Transfers.{guarded_of}
 use Rattle.transfer.specs.Laws.Guards.{beside_is}
-use Rattle.std.proofs.Common.{rules}
+use Rattle.std.proofs.Common.{rules, sym, ◌∙◌, arith}
 use Rattle.loadstore.proofs.load_pair.Goals as goal
 
 pub read32-low-requires : goal.read32-low-requires
@@ -17,8 +15,6 @@ read32-high-requires c =
 pub returns-in-Inside : goal.returns-in-Inside
 unfolding guarded_of
 returns-in-Inside c =
-    let w = c.before.before in
-    let r = w.before.before in
     rw (← c.find_outside-found.ensures, c.in-Inside.is, ← c.wrapping_add.ensures, ← c.read32-high.ensures, ← c.read32-low.ensures, ← c.write_back.ensures)
     (beside_is c.land.ensures)
 

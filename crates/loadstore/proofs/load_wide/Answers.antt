@@ -1,7 +1,6 @@
-use mathlib.Core.Path.{sym, ◌∙◌}
 use Rattle.memory.specs.Laws.Plans.{reached}
 use Rattle.transfer.specs.Laws.Guards.{guard_shut, guard_open, beside_is}
-use Rattle.std.proofs.Common.{rules}
+use Rattle.std.proofs.Common.{rules, sym, ◌∙◌}
 use Rattle.loadstore.proofs.load_wide.Goals as goal
 
 pub returns-then-reaches_out : goal.returns-then-reaches_out
@@ -11,7 +10,5 @@ returns-then-reaches_out c =
 
 pub returns-else-reaches_out : goal.returns-else-reaches_out
 returns-else-reaches_out c =
-    let w = c.before.before in
-    let v = w.before.before in
     let e = sym c.reaches_out.ensures ∙ c.if-reaches_out.false in
     rw (guard_open, ← c.load.ensures, ← c.widen-value.ensures, ← c.write_back.ensures) (beside_is c.land.ensures)

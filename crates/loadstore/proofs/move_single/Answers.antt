@@ -1,10 +1,8 @@
-use mathlib.Core.Path.{sym, ◌∙◌}
-use borrow.Author.Tests.{eq-eqb, ne_eqb}
 use Rattle.memory.specs.Laws.Plans.{reached}
 use Rattle.bits.specs.Cases.{if_yes, if_no}
 use Rattle.transfer.specs.Laws.Guards.{guard_shut, guard_open, beside_is}
 use Rattle.loadstore.specs.Single.{single_at}
-use Rattle.std.proofs.Common.{rules}
+use Rattle.std.proofs.Common.{rules, sym, ◌∙◌, eq-eqb, ne_eqb}
 use Rattle.loadstore.proofs.move_single.Goals as goal
 
 pub returns-then-reaches_out : goal.returns-then-reaches_out
@@ -23,7 +21,6 @@ returns-then-op-eq1 c =
 pub returns-else-op-eq1 : goal.returns-else-op-eq1
 unfolding single_at
 returns-else-op-eq1 c =
-    let s = c.before.before in
     let e = sym c.reaches_out.ensures ∙ c.if-reaches_out.false in
     let k = ne_eqb _ _ c.if-op-eq1.false in
     rw (← c.find_width-width.ensures.0, guard_open, if_no, ← c.read_source.ensures) c.store_one.ensures

@@ -1,7 +1,6 @@
-use mathlib.Core.Path.{sym, ◌∙◌}
 use Rattle.memory.specs.Laws.Plans.{reached}
 use Rattle.transfer.specs.Laws.Guards.{guard_shut, guard_open}
-use Rattle.std.proofs.Common.{rules}
+use Rattle.std.proofs.Common.{rules, sym, ◌∙◌}
 use Rattle.loadstore.proofs.store_half.Goals as goal
 
 pub returns-then-reaches_out : goal.returns-then-reaches_out
@@ -11,6 +10,5 @@ returns-then-reaches_out c =
 
 pub returns-else-reaches_out : goal.returns-else-reaches_out
 returns-else-reaches_out c =
-    let s = c.before.before in
     let e = sym c.reaches_out.ensures ∙ c.if-reaches_out.false in
     rw guard_open c.store_one.ensures

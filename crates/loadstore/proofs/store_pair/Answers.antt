@@ -1,9 +1,7 @@
-use mathlib.Core.Path.{sym, ◌∙◌}
-use native.Mathlib.Omega.{arith}
 use Rattle.memory.specs.Laws.Plans.{inside_two}
 use Rattle.transfer.specs.Transfers.{guarded_of}
 use Rattle.transfer.specs.Laws.Guards.{beside_is}
-use Rattle.std.proofs.Common.{rules}
+use Rattle.std.proofs.Common.{rules, sym, ◌∙◌, arith}
 use Rattle.loadstore.proofs.store_pair.Goals as goal
 
 pub write32-requires : goal.write32-requires
@@ -12,17 +10,12 @@ write32-requires c =
 
 pub write32-requires-in-Inside : goal.write32-requires-in-Inside
 write32-requires-in-Inside c =
-    let w = c.before.before.before.before.before in
     let i = inside_two _ _ _ (sym c.find_outside-found.ensures ∙ c.in-Inside.is) in
     omega (arith, i.1, c.wrapping_add.ensures, c.write32.auto.mem)
 
 pub returns-in-Inside : goal.returns-in-Inside
 unfolding guarded_of
 returns-in-Inside c =
-    let w = c.before.before in
-    let s = w.before.before.before.before in
-    let a = s.before.before in
-    let p = a.before.before.before.before in
     rw (← c.find_outside-found.ensures, c.in-Inside.is, ← c.write32.ensures, ← c.wrapping_add.ensures, ← c.write32-in-Inside.ensures, ← c.write_back.ensures)
     (beside_is c.finish.ensures)
 

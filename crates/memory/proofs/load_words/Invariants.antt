@@ -1,4 +1,4 @@
-use Prim.Native.Nat.{◌-◌}
+use Rattle.std.proofs.Common.{◌-◌}
 use Rattle.memory.specs.Laws.Plans.{Loading, loading_first, loading_here, loading_next, loading_last}
 use Rattle.memory.proofs.load_words.Given as goal
 

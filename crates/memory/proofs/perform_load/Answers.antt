@@ -1,6 +1,5 @@
-use mathlib.Core.Path.{sym, ◌∙◌}
 use Rattle.memory.specs.Plans.{performed_of}
-use Rattle.std.proofs.Common.{rules}
+use Rattle.std.proofs.Common.{rules, sym, ◌∙◌}
 use Rattle.memory.proofs.perform_load.Goals as goal
 
 pub load_words-requires : goal.load_words-requires

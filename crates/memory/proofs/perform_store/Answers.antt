@@ -1,6 +1,5 @@
-use mathlib.Core.Path.{sym, ◌∙◌}
 use Rattle.memory.specs.Plans.{performed_of}
-use Rattle.std.proofs.Common.{rules}
+use Rattle.std.proofs.Common.{rules, sym, ◌∙◌}
 use Rattle.memory.proofs.perform_store.Goals as goal
 
 pub returns-in-Inside : goal.returns-in-Inside

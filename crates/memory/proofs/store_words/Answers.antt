@@ -1,9 +1,5 @@
-use Prim.Native.Nat.{◌-◌}
-use mathlib.Core.Path.{◌≡◌}
-use native.Mathlib.Omega.{arith}
-use lib.ListN.{length}
 use Rattle.memory.specs.Laws.Plans.{Storing, storing_first, storing_here, storing_next, storing_last}
-use Rattle.std.proofs.Common.{rules}
+use Rattle.std.proofs.Common.{rules, ◌-◌, ◌≡◌, arith, length}
 use Rattle.memory.proofs.store_words.Goals as goal
 
 pub loop-i-init : goal.loop-i-init
@@ -14,7 +10,6 @@ write32-requires c = storing_here c.loop-i.invariant.0 c.loop-i-test.true
 
 pub loop-i-preserved : goal.loop-i-preserved
 loop-i-preserved c =
-    let w = c.before.before.before in
     (rw (c.write32.ensures, c.wrapping_add-a.ensures) (storing_next c.loop-i.invariant.0 c.loop-i-test.true), omega (arith, c.write32.auto.mem))
 
 pub returns : goal.returns

@@ -1,7 +1,4 @@
-use Prim.Native.Nat.{◌-◌}
-use mathlib.Core.Path.{◌≡◌}
-use native.Mathlib.Omega.{arith}
-use lib.ListN.{length}
+use Rattle.std.proofs.Common.{◌-◌, ◌≡◌, arith, length}
 use Rattle.memory.specs.Laws.Plans.{Storing, storing_first, storing_here, storing_next, storing_last}
 use Rattle.memory.proofs.store_words.Given as goal
 

@@ -1,7 +1,5 @@
-use native.Mathlib.Omega.{arith}
-use lib.ListN.{length-set}
 use Rattle.memory.specs.Bytes.{put_half}
-use Rattle.std.proofs.Common.{rules}
+use Rattle.std.proofs.Common.{rules, arith, length-set}
 use Rattle.memory.proofs.write16.Goals as goal
 
 pub returns : goal.returns

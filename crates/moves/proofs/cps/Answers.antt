@@ -1,7 +1,6 @@
-use borrow.Author.Tests.{eq-eqb, ne_eqb}
 use Rattle.bits.specs.Cases.{when◌then◌else◌}
 use Rattle.moves.specs.Moves.{cps_of}
-use Rattle.std.proofs.Common.{rules}
+use Rattle.std.proofs.Common.{rules, eq-eqb, ne_eqb}
 use Rattle.moves.proofs.cps.Goals as goal
 
 pub returns-then-op-eq1 : goal.returns-then-op-eq1

@@ -1,7 +1,5 @@
-use mathlib.Core.Path.{◌∙◌}
-use native.Mathlib.Omega.{arith}
 use Rattle.shifter.specs.Laws.Shifts.{by_immediate_some}
-use Rattle.std.proofs.Common.{rules}
+use Rattle.std.proofs.Common.{rules, ◌∙◌, arith}
 use Rattle.shifter.proofs.by_immediate.Goals as goal
 
 pub returns-else-n-eq0 : goal.returns-else-n-eq0

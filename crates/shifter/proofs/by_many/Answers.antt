@@ -1,7 +1,5 @@
-use mathlib.Core.Bool.{false}
-use mathlib.Core.Path.{◌∙◌}
 use Rattle.shifter.specs.Laws.Shifts.{left_many, right_many, signed_many, turned_many}
-use Rattle.std.proofs.Common.{rules}
+use Rattle.std.proofs.Common.{rules, false, ◌∙◌}
 use Rattle.shifter.proofs.by_many.Goals as goal
 
 pub returns-in-Lsl : goal.returns-in-Lsl

@@ -1,7 +1,5 @@
-use mathlib.Core.Path.{◌∙◌}
-use native.Mathlib.Omega.{arith}
 use Rattle.shifter.specs.Laws.Shifts.{register_none, by_register_some, many_any}
-use Rattle.std.proofs.Common.{rules}
+use Rattle.std.proofs.Common.{rules, ◌∙◌, arith}
 use Rattle.shifter.proofs.by_register.Goals as goal
 
 pub returns-then-n-eq0 : goal.returns-then-n-eq0

@@ -1,8 +1,6 @@
-use mathlib.Core.Path.{sym, ◌∙◌}
-use borrow.Author.Tests.{eq-eqb, ne_eqb}
 use Rattle.bits.specs.Cases.{when◌then◌else◌}
 use Rattle.state.specs.State.{tag_of}
-use Rattle.std.proofs.Common.{rules}
+use Rattle.std.proofs.Common.{rules, sym, ◌∙◌, eq-eqb, ne_eqb}
 use Rattle.state.proofs.read_tag.Goals as goal
 
 pub returns-then-present-eq0 : goal.returns-then-present-eq0

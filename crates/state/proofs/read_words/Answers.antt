@@ -1,7 +1,5 @@
-use Prim.Native.Nat.{◌-◌}
-use lib.ListN.{length}
 use Rattle.state.specs.Laws.Words.{Reading, reading_first, reading_next, reading_last}
-use Rattle.std.proofs.Common.{rules}
+use Rattle.std.proofs.Common.{rules, ◌-◌, length}
 use Rattle.state.proofs.read_words.Goals as goal
 
 pub loop-i-init : goal.loop-i-init

@@ -1,5 +1,4 @@
-use Prim.Native.Nat.{◌-◌}
-use lib.ListN.{length}
+use Rattle.std.proofs.Common.{◌-◌, length}
 use Rattle.state.specs.Laws.Words.{Reading, reading_first, reading_next, reading_last}
 use Rattle.state.proofs.read_words.Given as goal
 

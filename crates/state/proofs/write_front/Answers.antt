@@ -1,8 +1,5 @@
-use mathlib.Core.Path.{◌≡◌}
-use native.Mathlib.Omega.{arith}
-use lib.ListN.{length}
 use Rattle.state.specs.Laws.Parts.{front_placed}
-use Rattle.std.proofs.Common.{rules}
+use Rattle.std.proofs.Common.{rules, ◌≡◌, arith, length}
 use Rattle.state.proofs.write_front.Goals as goal
 
 pub write_words-requires : goal.write_words-requires
@@ -11,7 +8,6 @@ write_words-requires c = let n : length c.args.m.regs ≡ 16 = search rules in o
 pub returns : goal.returns
 unfolding front_placed
 returns c =
-    let ges = c.before.before.before.before.before in
     rw (
       c.write_words-3.ensures,
       c.ge_words-ges.ensures,

@@ -1,5 +1,4 @@
-use Prim.Native.Nat.{◌-◌}
-use lib.ListN.{length}
+use Rattle.std.proofs.Common.{◌-◌, length}
 use Rattle.state.specs.Laws.Words.{Writing, writing_first, writing_next, writing_last}
 use Rattle.state.proofs.write_words.Given as goal
 
