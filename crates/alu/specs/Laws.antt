@@ -2,4 +2,3 @@
 pub mod Sums
 pub mod Saturation
 pub mod Numbers
-pub mod Chains

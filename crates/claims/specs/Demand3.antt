@@ -103,7 +103,7 @@ pub data Chain (next : ℕ) : ℕ → State → Pair → List Pair → List ℕ 
       → Chain next k s p (q ∷ ps) (w ∷ ws) t
 
 -- Demand 3, with `Subtracted` and `Added` of alu/specs/Chains.antt: the exact result modulo 2^(32 n), C, N and V of the long numbers, and Z of the last word only.
--- Laws/Demand3.antt has the proof.
+-- proofs/Demand3.antt has the proof.
 pub record Demand3 : Type 0 where
   pub differences : {s t : State} {p : Pair} {ps : List Pair} {ws : List ℕ} → Chain SBC SUB s p ps ws t → Subtracted view p ps ws t
   pub sums : {s t : State} {p : Pair} {ps : List Pair} {ws : List ℕ} → Chain ADC ADD s p ps ws t → Added view p ps ws t

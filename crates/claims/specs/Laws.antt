@@ -17,6 +17,4 @@ pub mod Demand2
 pub mod Operands
 pub mod Family
 pub mod Finished
-pub mod Link
-pub mod Demand3
 pub mod P13

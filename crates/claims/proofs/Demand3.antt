@@ -6,9 +6,9 @@ use Rattle.alu.specs.Sums.{sbc_of, adc_of}
 use Rattle.alu.specs.Numbers.{Pair, Words, A, B}
 use Rattle.alu.specs.Chains as chains
 use Rattle.alu.specs.Chains.{Links}
-use Rattle.alu.specs.Laws.Chains.{subtracted, added}
+use Rattle.alu.proofs.Chains.{subtracted, added}
 use Rattle.claims.specs.Demand3.{State, view, SUB, ADC, SBC, Chain, ends, goes, Demand3}
-use Rattle.claims.specs.Laws.Link.{Makes, subs_make, sbcs_make, adds_make, adcs_make}
+use Rattle.claims.proofs.Link.{Makes, subs_make, sbcs_make, adds_make, adcs_make}
 
 -- the links of a chain, and that its operands are words
 pub record Chained (f : ℕ → ℕ → Bool → Sum) (b : Bool) (p : Pair) (ps : List Pair) (ws : List ℕ) (t : State) : Type 0 where

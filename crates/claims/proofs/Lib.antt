@@ -1,0 +1,3 @@
+-- Demand 3, proved: theorems over the statements of specs/.
+pub mod Link
+pub mod Demand3
