@@ -93,7 +93,7 @@ fn differing_byte(found: &[u8], listed: &[u8]) -> Verdict
 pub fn judge_state(found: &[u8; 216], listed: &[u8; 216]) -> Verdict
     ensures { Tells (is_same result) (found.now ≡ listed.now) }
 {
-    if check::same(found, listed) {
+    if found == listed {
         Verdict::Same
     } else {
         differing_word(found, listed)
@@ -103,7 +103,7 @@ pub fn judge_state(found: &[u8; 216], listed: &[u8; 216]) -> Verdict
 pub fn judge_memory(found: &[u8], listed: &[u8]) -> Verdict
     ensures { Tells (is_same result) (found.now ≡ listed.now) }
 {
-    if check::same(found, listed) {
+    if found == listed {
         Verdict::Same
     } else {
         differing_byte(found, listed)

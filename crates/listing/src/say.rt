@@ -1,87 +1,68 @@
 // What the program prints: the first difference, or the counts.
 use crate::judge::Verdict;
+use std::io;
+use std::io::Write;
 
-const OUT: i32 = 1;
-
-fn print_values(found: u32, listed: u32) {
-    io::print_hex(OUT, found as u64, 8);
-    io::write_all(OUT, b", listed ");
-    io::print_hex(OUT, listed as u64, 8);
+fn print_values<W: Write>(out: &mut W, found: u32, listed: u32) -> io::Result<()> {
+    write!(out, "{found:08x}, listed {listed:08x}")
 }
 
-fn print_word(place: u32, found: u32, listed: u32) {
-    io::write_all(OUT, b"word ");
-    io::print_decimal(OUT, place as u64);
-    io::write_all(OUT, b" is ");
-    print_values(found, listed);
+fn print_word<W: Write>(out: &mut W, place: u32, found: u32, listed: u32) -> io::Result<()> {
+    write!(out, "word {place} is ")?;
+    print_values(out, found, listed)
 }
 
-fn print_byte(place: u32, found: u32, listed: u32) {
-    io::write_all(OUT, b"the byte at ");
-    io::print_hex(OUT, place as u64, 8);
-    io::write_all(OUT, b" is ");
-    print_values(found, listed);
+fn print_byte<W: Write>(out: &mut W, place: u32, found: u32, listed: u32) -> io::Result<()> {
+    write!(out, "the byte at {place:08x} is ")?;
+    print_values(out, found, listed)
 }
 
-fn print_verdict(verdict: Verdict) {
+fn print_verdict<W: Write>(out: &mut W, verdict: Verdict) -> io::Result<()> {
     match verdict {
-        Verdict::Same => {
-            io::write_all(OUT, b"as listed");
-        }
-        Verdict::Unread => {
-            io::write_all(OUT, b"no case");
-        }
+        Verdict::Same => out.write_all(b"as listed"),
+        Verdict::Unread => out.write_all(b"no case"),
         Verdict::Number(found, listed) => {
-            io::write_all(OUT, b"the answer is ");
-            print_values(found, listed);
+            out.write_all(b"the answer is ")?;
+            print_values(out, found, listed)
         }
         Verdict::First(found, listed) => {
-            io::write_all(OUT, b"the answer's first value is ");
-            print_values(found, listed);
+            out.write_all(b"the answer's first value is ")?;
+            print_values(out, found, listed)
         }
         Verdict::Second(found, listed) => {
-            io::write_all(OUT, b"the answer's second value is ");
-            print_values(found, listed);
+            out.write_all(b"the answer's second value is ")?;
+            print_values(out, found, listed)
         }
         Verdict::Count(found, listed) => {
-            io::write_all(OUT, b"the count is ");
-            print_values(found, listed);
+            out.write_all(b"the count is ")?;
+            print_values(out, found, listed)
         }
-        Verdict::Word(place, found, listed) => print_word(place, found, listed),
-        Verdict::Byte(place, found, listed) => print_byte(place, found, listed),
+        Verdict::Word(place, found, listed) => print_word(out, place, found, listed),
+        Verdict::Byte(place, found, listed) => print_byte(out, place, found, listed),
     }
 }
 
-pub fn print_difference(line: u32, verdict: Verdict) {
-    io::write_all(OUT, b"line ");
-    io::print_decimal(OUT, line as u64);
-    io::write_all(OUT, b": ");
-    print_verdict(verdict);
-    io::write_all(OUT, b"\n");
+pub fn print_difference<W: Write>(out: &mut W, line: u32, verdict: Verdict) -> io::Result<()> {
+    write!(out, "line {line}: ")?;
+    print_verdict(out, verdict)?;
+    out.write_all(b"\n")
 }
 
-fn print_count(answer: u32, count: u32) {
-    io::write_all(OUT, b"answer ");
-    io::print_decimal(OUT, answer as u64);
-    io::write_all(OUT, b": ");
-    io::print_decimal(OUT, count as u64);
-    io::write_all(OUT, b"\n");
+fn print_count<W: Write>(out: &mut W, answer: u32, count: u32) -> io::Result<()> {
+    writeln!(out, "answer {answer}: {count}")
 }
 
-fn print_all(cases: u32) {
-    io::print_decimal(OUT, cases as u64);
-    io::write_all(OUT, b" cases, all as listed\n");
+fn print_all<W: Write>(out: &mut W, cases: u32) -> io::Result<()> {
+    writeln!(out, "{cases} cases, all as listed")
 }
 
 // The cases of each answer, and all of them.
-pub fn print_counts(counts: &[u32; 12]) {
+pub fn print_counts<W: Write>(out: &mut W, counts: &[u32; 12]) -> io::Result<()> {
     let mut all: u32 = 0;
-    let mut answer: u32 = 0;
-    while answer < 12 {
+    for answer in 0u32..12 {
         let i = answer as usize;
-        print_count(answer, counts[i]);
+        print_count(out, answer, counts[i])?;
         all = std::num::wrapping_add_u32(all, counts[i]);
-        answer += 1;
     }
-    print_all(all);
+    print_all(out, all)
 }

@@ -23,11 +23,23 @@ pub struct Line {
     pub next: usize,
 }
 
+// The first byte b from a place on, or the end.
+pub fn find(text: &[u8], from: usize, b: u8) -> usize
+    requires { from ≤ length text.now }
+    ensures { (from ≤ result) × (result ≤ length text.now) }
+{
+    let mut at = from;
+    while at < text.len() && text[at] != b {
+        at += 1;
+    }
+    at
+}
+
 pub fn read_line(text: &[u8], at: usize) -> Line
     requires { at < length text.now }
     ensures { (at ≤ result.end) × (result.end ≤ length text.now) × (at < result.next) × (result.next ≤ length text.now) }
 {
-    let end = bytes::scan::find(text, at, text.len(), b'\n');
+    let end = find(text, at, b'\n');
     if end < text.len() {
         Line { end, next: end + 1 }
     } else {

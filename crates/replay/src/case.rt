@@ -199,7 +199,7 @@ pub fn replay_line(
 ) -> Verdict {
     let kind = text::byte_at(line, 0);
     if kind == b's' || kind == b'f' || kind == b'r' {
-        let from = bytes::scan::find(line, 0, line.len(), b' ');
+        let from = text::find(line, 0, b' ');
         replay_case(kind, line, from, memory, listed_memory)
     } else {
         Verdict::Unread

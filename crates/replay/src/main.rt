@@ -5,6 +5,8 @@ ghost use Rattle.std.specs.Prelude.{◌≡◌, length};
 
 use listing::judge::Verdict;
 use listing::{judge, say, text};
+use std::io;
+use std::io::{Read, Write};
 
 mod case;
 
@@ -16,7 +18,7 @@ fn holds_case(line: &[u8]) -> bool {
 
 // The number of the answer that a line lists: the first after its mark.
 fn listed_answer(line: &[u8]) -> u32 {
-    let mark = bytes::scan::find(line, 0, line.len(), b'>');
+    let mark = text::find(line, 0, b'>');
     let at = text::pass(line, mark, b'>');
     let number = text::read_field(line, at);
     number.value
@@ -45,7 +47,12 @@ fn replay_line(
 }
 
 // Every line in turn, until one differs.
-fn replay_all(list: &[u8], memory: &mut [u8; 65537], listed_memory: &mut [u8; 65537]) {
+fn replay_all<W: Write>(
+    out: &mut W,
+    list: &[u8],
+    memory: &mut [u8; 65537],
+    listed_memory: &mut [u8; 65537],
+) -> io::Result<()> {
     let mut counts = [0u32; 12];
     let mut number: u32 = 0;
     let mut at = 0;
@@ -55,12 +62,11 @@ fn replay_all(list: &[u8], memory: &mut [u8; 65537], listed_memory: &mut [u8; 65
         number = std::num::wrapping_add_u32(number, 1);
         let verdict = replay_line(&list[at..end], memory, listed_memory, &mut counts);
         if !judge::is_same(verdict) {
-            say::print_difference(number, verdict);
-            return;
+            return say::print_difference(out, number, verdict);
         }
         at = line.next;
     }
-    say::print_counts(&counts);
+    say::print_counts(out, &counts)
 }
 
 // Room for the list.
@@ -75,11 +81,24 @@ fn memory_buffer() -> [u8; 65537] {
     [0; 65537]
 }
 
-fn main() {
+// Reads until the room is full or the input ends.
+fn fill<R: Read>(reader: &mut R, room: &mut [u8]) -> io::Result<()> {
+    let mut n = 0;
+    while n < room.len() {
+        let more = reader.read(&mut room[n..])?;
+        if more == 0 {
+            return Ok(());
+        }
+        n += more;
+    }
+    Ok(())
+}
+
+fn main(rt: HostRuntime) -> io::Result<()> {
     let mut list = list_buffer();
     let mut memory = memory_buffer();
     let mut listed_memory = memory_buffer();
     // what is left of the buffer is a line with no case
-    io::read_full(0, &mut list);
-    replay_all(&list, &mut memory, &mut listed_memory);
+    fill(&mut rt.stdin(), &mut list)?;
+    replay_all(&mut rt.stdout(), &list, &mut memory, &mut listed_memory)
 }

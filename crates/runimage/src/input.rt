@@ -1,50 +1,29 @@
 // Standard input, up to the room that there is for it.
-ghost use Rattle.std.specs.Prelude.{◌+◌, ◌≤◌, length};
-ghost use Rattle.io.specs.Counts.{IsPrefixLen};
+ghost use Rattle.std.specs.Prelude.{◌≡◌, ◌+◌, ◌≤◌, length, take, IfOk};
 
-// How many bytes were read, and whether a read failed.
-#[derive(Clone, Copy)]
-pub struct Loaded {
-    pub count: usize,
-    pub failed: bool,
-}
+use std::io;
+use std::io::Read;
 
-fn read_once(room: &mut [u8]) -> Loaded
-    ensures { result.count ≤ length room.new }
-{
-    let got = libc::read(libc::STDIN_FILENO, room);
-    let count = io::count(got, room);
-    Loaded {
-        count,
-        failed: got < 0,
-    }
-}
-
-// One read behind the first n bytes.
-fn read_behind(room: &mut [u8], n: usize) -> Loaded
+// One read behind the first n bytes: how many came.
+fn read_behind<R: Read>(reader: &mut R, room: &mut [u8], n: usize) -> io::Result<usize>
     requires { n ≤ length room.old }
-    ensures { n + result.count ≤ length room.new }
+    ensures { IfOk result (λ more. n + more ≤ length room.new) }
 {
-    read_once(&mut room[n..])
+    reader.read(&mut room[n..])
 }
 
-// Reads until the room is full, the input ends or a read fails.
-pub fn load(room: &mut [u8]) -> Loaded
-    ensures { IsPrefixLen result.count room.new }
+// Reads until the room is full, the input ends or a read fails; how many bytes were read.
+pub fn load<R: Read>(reader: &mut R, room: &mut [u8]) -> io::Result<usize>
+    ensures ok { IfOk result (λ count. (count ≤ length room.new) × (count ≡ length (take count room.new))) }
+    ensures room { length room.new ≡ length room.old }
 {
     let mut n: usize = 0;
     while n < room.len() {
-        let more = read_behind(room, n);
-        if more.count == 0 {
-            return Loaded {
-                count: n,
-                failed: more.failed,
-            };
+        let more = read_behind(reader, room, n)?;
+        if more == 0 {
+            return Ok(n);
         }
-        n += more.count;
+        n += more;
     }
-    Loaded {
-        count: n,
-        failed: false,
-    }
+    Ok(n)
 }

@@ -6,14 +6,11 @@ mod page;
 mod print;
 mod text;
 
-fn main() {
+use std::io;
+
+fn main(rt: HostRuntime) -> io::Result<()> {
     // one byte more than memory may have, so that a longer image is seen to be too long
     let mut room = [0u8; 65537];
-    let loaded = input::load(&mut room);
-    let n = loaded.count;
-    if loaded.failed {
-        os::fail(b"runimage: standard input");
-    } else {
-        print::print_page(page::run_image(&mut room[..n]));
-    }
+    let n = input::load(&mut rt.stdin(), &mut room)?;
+    print::print_page(&mut rt.stdout(), page::run_image(&mut room[..n]))
 }
