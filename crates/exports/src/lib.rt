@@ -1,4 +1,4 @@
-// The functions that a host in C or Rust links: the public calls on numbers, and on a machine and memory as lent bytes.
+// The public calls for a host: on numbers, and on a machine and memory as lent bytes. exports_c hands them to C.
 #![tactic(auto)]
 
 ghost use Rattle.std.specs.Prelude.{◌≡◌, length};
@@ -14,8 +14,7 @@ fn join_halves(high: u32, low: u32) -> u64
     (high as u64) * 0x1_0000_0000 + low as u64
 }
 
-#[unsafe(no_mangle)]
-pub extern "C" fn tholungdek_pack(word: u32, ge: u32) -> u64
+pub fn tholungdek_pack(word: u32, ge: u32) -> u64
     ensures { result ≡ pack_call_of word ge }
 {
     let mut s = psr::unpack(word);
@@ -24,8 +23,7 @@ pub extern "C" fn tholungdek_pack(word: u32, ge: u32) -> u64
     join_halves(p.answer, p.word)
 }
 
-#[unsafe(no_mangle)]
-pub extern "C" fn tholungdek_unpack(word: u32) -> u64
+pub fn tholungdek_unpack(word: u32) -> u64
     ensures { result ≡ unpack_call_of word }
 {
     let s = psr::unpack(word);
@@ -33,16 +31,14 @@ pub extern "C" fn tholungdek_unpack(word: u32) -> u64
     join_halves(s.ge as u32, p.word)
 }
 
-#[unsafe(no_mangle)]
-pub extern "C" fn tholungdek_shift_immediate(kind: u32, value: u32, amount: u32, carry: bool) -> u64
+pub fn tholungdek_shift_immediate(kind: u32, value: u32, amount: u32, carry: bool) -> u64
     ensures { result ≡ shift_immediate_call_of kind value amount carry }
 {
     let o = shifter::shift_by_immediate(kind, value, amount, carry);
     join_halves(bits::bit_of(o.carry), o.value)
 }
 
-#[unsafe(no_mangle)]
-pub extern "C" fn tholungdek_shift_register(kind: u32, value: u32, amount: u32, carry: bool) -> u64
+pub fn tholungdek_shift_register(kind: u32, value: u32, amount: u32, carry: bool) -> u64
     ensures { result ≡ shift_register_call_of kind value amount carry }
 {
     let o = shifter::shift_by_register(kind, value, amount, carry);
@@ -85,8 +81,7 @@ fn leave_run(f: Finished, bytes: &mut [u8], answer: &mut [u8]) -> u32
     1
 }
 
-#[unsafe(no_mangle)]
-pub extern "C" fn tholungdek_step(bytes: &mut [u8], memory: &mut [u8], answer: &mut [u8]) -> u32
+pub fn tholungdek_step(bytes: &mut [u8], memory: &mut [u8], answer: &mut [u8]) -> u32
     ensures { (result, bytes.new, memory.new, answer.new) ≡ step_call_of bytes.old memory.old answer.old }
 {
     if bytes.len() == 216 {
@@ -102,8 +97,7 @@ pub extern "C" fn tholungdek_step(bytes: &mut [u8], memory: &mut [u8], answer: &
     }
 }
 
-#[unsafe(no_mangle)]
-pub extern "C" fn tholungdek_step_opcode(
+pub fn tholungdek_step_opcode(
     bytes: &mut [u8],
     memory: &mut [u8],
     opcode: u32,
@@ -124,13 +118,7 @@ pub extern "C" fn tholungdek_step_opcode(
     }
 }
 
-#[unsafe(no_mangle)]
-pub extern "C" fn tholungdek_run(
-    bytes: &mut [u8],
-    memory: &mut [u8],
-    budget: u32,
-    answer: &mut [u8],
-) -> u32
+pub fn tholungdek_run(bytes: &mut [u8], memory: &mut [u8], budget: u32, answer: &mut [u8]) -> u32
     ensures { (result, bytes.new, memory.new, answer.new) ≡ run_call_of bytes.old memory.old budget answer.old }
 {
     if bytes.len() == 216 {
