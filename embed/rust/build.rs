@@ -11,7 +11,7 @@ fn archive() -> Result<PathBuf, String> {
     let path = named.unwrap_or_else(|| Path::new(env!("CARGO_MANIFEST_DIR")).join(BUILT));
     path.canonicalize().map_err(|why| {
         let path = path.display();
-        format!("{path}: {why}; run `rt staticlib exports`, or name an archive in THOLUNGDEK_LIB")
+        format!("{path}: {why}; run `tools/build archive`, or name an archive in THOLUNGDEK_LIB")
     })
 }
 
