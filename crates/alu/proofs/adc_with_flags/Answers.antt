@@ -1,5 +1,4 @@
 use Rattle.alu.specs.Laws.Sums.{adc_law}
-use Rattle.std.proofs.Common.{rules}
 use Rattle.alu.proofs.adc_with_flags.Goals as goal
 
 pub returns : goal.returns

@@ -1,5 +1,4 @@
 use Rattle.alu.specs.Laws.Sums.{add_adc}
-use Rattle.std.proofs.Common.{rules}
 use Rattle.alu.proofs.add_with_flags.Goals as goal
 
 pub returns : goal.returns

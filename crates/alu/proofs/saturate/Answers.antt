@@ -1,6 +1,5 @@
 use mir.Facts.{to_z-of_z}
 use Rattle.alu.specs.Laws.Saturation.{below_low, above_high, between}
-use Rattle.std.proofs.Common.{rules}
 use Rattle.alu.proofs.saturate.Goals as goal
 
 pub returns-then-z-low : goal.returns-then-z-low

@@ -1,5 +1,4 @@
 use Rattle.alu.specs.Laws.Sums.{sbc_law}
-use Rattle.std.proofs.Common.{rules}
 use Rattle.alu.proofs.sbc_with_flags.Goals as goal
 
 pub returns : goal.returns

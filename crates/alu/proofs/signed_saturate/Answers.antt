@@ -1,8 +1,8 @@
 use mir.Facts.{to_z-of_z}
-use Rattle.bits.specs.Laws.Range.{is_nat, fit_sub, is_sub}
+use Rattle.bits.specs.Laws.Range.{is_nat, is_sub}
 use Rattle.alu.specs.Saturation.{signed_sat_of}
 use Rattle.alu.specs.Laws.Saturation.{least_is, greatest_is}
-use Rattle.std.proofs.Common.{rules, ◌^◌, lit<, lit≤}
+use Rattle.std.proofs.Common.{◌^◌, lit<, lit≤}
 use Rattle.alu.proofs.signed_saturate.Goals as goal
 
 pub returns : goal.returns

@@ -1,5 +1,4 @@
 use Rattle.alu.specs.Laws.Sums.{sub_sbc}
-use Rattle.std.proofs.Common.{rules}
 use Rattle.alu.proofs.sub_with_flags.Goals as goal
 
 pub returns : goal.returns

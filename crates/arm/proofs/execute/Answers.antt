@@ -1,6 +1,5 @@
 use Rattle.arm.specs.Turn.{effect_of}
 use Rattle.transfer.specs.Laws.Guards.{beside_is}
-use Rattle.std.proofs.Common.{rules, refl}
 use Rattle.arm.proofs.execute.Goals as goal
 
 pub returns-in-DataProcessing : goal.returns-in-DataProcessing

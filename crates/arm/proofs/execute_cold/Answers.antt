@@ -1,7 +1,5 @@
 use Rattle.arm.specs.Turn.{effect_of}
 use Rattle.transfer.specs.Laws.Guards.{beside_is}
-use Rattle.arm.specs.Laws.Cold.{not_cold}
-use Rattle.std.proofs.Common.{rules, refl}
 use Rattle.arm.proofs.execute_cold.Goals as goal
 
 pub returns-in-Swap : goal.returns-in-Swap

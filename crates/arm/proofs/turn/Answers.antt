@@ -1,6 +1,6 @@
 use Rattle.bits.specs.Cases.{when◌then◌else◌}
 use Rattle.arm.specs.Turn.{turn_of}
-use Rattle.std.proofs.Common.{rules, sym, ◌∙◌}
+use Rattle.std.proofs.Common.{sym, ◌∙◌}
 use Rattle.arm.proofs.turn.Goals as goal
 
 pub returns-then-passed : goal.returns-then-passed

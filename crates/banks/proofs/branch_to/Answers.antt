@@ -1,6 +1,5 @@
 use Rattle.bits.specs.Cases.{when◌then◌else◌}
 use Rattle.banks.specs.Banks.{branched_to}
-use Rattle.std.proofs.Common.{rules}
 use Rattle.banks.proofs.branch_to.Goals as goal
 
 pub returns-then-thumb : goal.returns-then-thumb

@@ -1,6 +1,5 @@
 use Rattle.banks.specs.Banks.{entered_of, saved_kept, fiq_kept, user_kept, regs_taken, spsr_taken}
 use Rattle.banks.specs.Laws.Parts.{saved_at, taken_at}
-use Rattle.std.proofs.Common.{rules}
 use Rattle.banks.proofs.enter.Goals as goal
 
 pub returns : goal.returns

@@ -1,5 +1,4 @@
 use Rattle.banks.specs.Banks.{exchanged_to}
-use Rattle.std.proofs.Common.{rules}
 use Rattle.banks.proofs.exchange_to.Goals as goal
 
 pub returns : goal.returns

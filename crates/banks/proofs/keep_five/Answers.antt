@@ -1,5 +1,4 @@
 use Rattle.bits.specs.Cases.{cases}
-use Rattle.std.proofs.Common.{rules}
 use Rattle.banks.proofs.keep_five.Goals as goal
 
 pub returns-then-on : goal.returns-then-on

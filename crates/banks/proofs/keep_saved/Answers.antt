@@ -1,6 +1,5 @@
 use Rattle.bits.specs.Cases.{cases}
 use Rattle.banks.specs.Laws.Parts.{saved_at}
-use Rattle.std.proofs.Common.{rules}
 use Rattle.banks.proofs.keep_saved.Goals as goal
 
 pub returns-then-b-lt5 : goal.returns-then-b-lt5

@@ -1,5 +1,4 @@
 use Rattle.banks.specs.Banks.{restored_of}
-use Rattle.std.proofs.Common.{rules}
 use Rattle.banks.proofs.restore.Goals as goal
 
 pub returns : goal.returns

@@ -1,5 +1,4 @@
 use Rattle.banks.specs.Banks.{returned_of}
-use Rattle.std.proofs.Common.{rules}
 use Rattle.banks.proofs.return_to.Goals as goal
 
 pub returns : goal.returns

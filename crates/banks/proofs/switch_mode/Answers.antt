@@ -1,6 +1,5 @@
 use Rattle.bits.specs.Cases.{when◌then◌else◌}
 use Rattle.banks.specs.Banks.{switched_of}
-use Rattle.std.proofs.Common.{rules}
 use Rattle.banks.proofs.switch_mode.Goals as goal
 
 pub returns-then-same : goal.returns-then-same

@@ -1,5 +1,4 @@
 use Rattle.bits.specs.Cases.{when◌then◌else◌}
-use Rattle.std.proofs.Common.{rules}
 use Rattle.banks.proofs.take_five.Goals as goal
 
 pub returns-then-to : goal.returns-then-to

@@ -1,6 +1,6 @@
 use Rattle.bits.specs.Cases.{when◌then◌else◌}
 use Rattle.banks.specs.Banks.{with_user_reg}
-use Rattle.std.proofs.Common.{rules, lt-ltb, le-ltb}
+use Rattle.std.proofs.Common.{lt-ltb, le-ltb}
 use Rattle.banks.proofs.write_user_reg.Goals as goal
 
 pub returns-then-r-lt8 : goal.returns-then-r-lt8

@@ -1,7 +1,7 @@
 use Rattle.bits.specs.Cases.{cases}
 use Rattle.block.specs.Block.{block_of}
 use Rattle.block.specs.Laws.Ways.{loads, stores, refuses}
-use Rattle.std.proofs.Common.{rules, sym, ◌∙◌}
+use Rattle.std.proofs.Common.{sym, ◌∙◌}
 use Rattle.block.proofs.execute.Goals as goal
 
 pub load-requires : goal.load-requires

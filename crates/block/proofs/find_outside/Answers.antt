@@ -1,5 +1,5 @@
 use Rattle.memory.specs.Laws.Plans.{span_inside}
-use Rattle.std.proofs.Common.{rules, sym}
+use Rattle.std.proofs.Common.{sym}
 use Rattle.block.proofs.find_outside.Goals as goal
 
 pub returns-then-p-count : goal.returns-then-p-count

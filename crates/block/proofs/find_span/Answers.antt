@@ -1,7 +1,7 @@
 use Rattle.bits.specs.Cases.{when◌then◌else◌, cases}
 use Rattle.block.specs.Block.{span_of}
 use Rattle.bits.specs.Laws.Count.{ones_le}
-use Rattle.std.proofs.Common.{rules, arith, ne_eqb}
+use Rattle.std.proofs.Common.{arith, ne_eqb}
 use Rattle.block.proofs.find_span.Goals as goal
 
 pub overflow_mul-result : goal.overflow_mul-result

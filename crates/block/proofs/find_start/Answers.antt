@@ -1,6 +1,5 @@
 use Rattle.bits.specs.Cases.{cases}
 use Rattle.block.specs.Block.{start_of}
-use Rattle.std.proofs.Common.{rules}
 use Rattle.block.proofs.find_start.Goals as goal
 
 pub returns-then-mode-eq1 : goal.returns-then-mode-eq1

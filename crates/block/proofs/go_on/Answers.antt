@@ -1,6 +1,5 @@
 use Rattle.bits.specs.Cases.{cases}
 use Rattle.block.specs.Block.{continued_of}
-use Rattle.std.proofs.Common.{rules}
 use Rattle.block.proofs.go_on.Goals as goal
 
 pub returns-then-p-eq1 : goal.returns-then-p-eq1

@@ -1,6 +1,6 @@
 use Rattle.block.specs.Block.{load_of}
 use Rattle.transfer.specs.Laws.Guards.{beside_is}
-use Rattle.std.proofs.Common.{rules, ◌∙◌}
+use Rattle.std.proofs.Common.{◌∙◌}
 use Rattle.block.proofs.load.Goals as goal
 
 pub returns : goal.returns

@@ -1,5 +1,4 @@
 use Rattle.block.specs.UserBlock.{return_load_of}
-use Rattle.std.proofs.Common.{rules}
 use Rattle.block.proofs.load_return.Goals as goal
 
 pub returns : goal.returns

@@ -1,6 +1,6 @@
 use Rattle.bits.specs.Cases.{when◌then◌else◌}
 use Rattle.block.specs.UserBlock.{user_load_of}
-use Rattle.std.proofs.Common.{rules, eq-eqb, ne_eqb}
+use Rattle.std.proofs.Common.{eq-eqb, ne_eqb}
 use Rattle.block.proofs.load_user.Goals as goal
 
 pub returns-then-p-eq1 : goal.returns-then-p-eq1

@@ -1,6 +1,5 @@
-use Rattle.banks.specs.Banks.{with_user_reg}
-use Rattle.block.specs.Laws.Loops.{Loading, loading_first, loading_set, loading_clear, loading_last, under_reach, under_here, loaded_is}
-use Rattle.std.proofs.Common.{rules, sym, ◌∙◌, arith}
+use Rattle.block.specs.Laws.Loops.{loading_first, loading_set, loading_clear, loading_last, under_reach, under_here, loaded_is}
+use Rattle.std.proofs.Common.{sym, ◌∙◌, arith}
 use Rattle.block.proofs.load_user_listed.Goals as goal
 
 pub loop-rest-init : goal.loop-rest-init

@@ -1,6 +1,5 @@
-use Rattle.std.proofs.Common.{sym, ◌∙◌, arith}
 use Rattle.banks.specs.Banks.{with_user_reg}
-use Rattle.block.specs.Laws.Loops.{Loading, loading_first, loading_set, loading_clear, loading_last, under_reach, under_here, loaded_is}
+use Rattle.block.specs.Laws.Loops.{Loading}
 use Rattle.block.proofs.load_user_listed.Given as goal
 
 abbrev pub invariant-loop-rest : goal.invariant-loop-rest

@@ -1,5 +1,4 @@
 use Rattle.block.specs.Block.{plan_of}
-use Rattle.std.proofs.Common.{rules}
 use Rattle.block.proofs.make_plan.Goals as goal
 
 pub returns : goal.returns

@@ -1,6 +1,6 @@
 use Rattle.bits.specs.Cases.{when◌then◌else◌}
 use Rattle.block.specs.UserBlock.{user_moved_of}
-use Rattle.std.proofs.Common.{rules, ◌∙◌, eq-eqb, ne_eqb}
+use Rattle.std.proofs.Common.{◌∙◌, eq-eqb, ne_eqb}
 use Rattle.block.proofs.move_user.Goals as goal
 
 pub returns-then-op-eq1-2 : goal.returns-then-op-eq1-2

@@ -1,5 +1,5 @@
-use Rattle.block.specs.Laws.Loops.{Storing, storing_first, storing_set, storing_clear, storing_last, under_reach, under_here, stored_is}
-use Rattle.std.proofs.Common.{rules, sym, ◌∙◌, arith, get_or}
+use Rattle.block.specs.Laws.Loops.{storing_first, storing_set, storing_clear, storing_last, under_reach, under_here, stored_is}
+use Rattle.std.proofs.Common.{sym, ◌∙◌, arith}
 use Rattle.block.proofs.store_listed.Goals as goal
 
 pub loop-rest-init : goal.loop-rest-init

@@ -1,5 +1,5 @@
-use Rattle.std.proofs.Common.{sym, ◌∙◌, arith, get_or}
-use Rattle.block.specs.Laws.Loops.{Storing, storing_first, storing_set, storing_clear, storing_last, under_reach, under_here, stored_is}
+use Rattle.std.proofs.Common.{get_or}
+use Rattle.block.specs.Laws.Loops.{Storing}
 use Rattle.block.proofs.store_listed.Given as goal
 
 abbrev pub invariant-loop-rest : goal.invariant-loop-rest

@@ -1,7 +1,6 @@
 use Rattle.banks.specs.Banks.{user_reg_of}
 use Rattle.block.specs.UserBlock.{user_store_of}
 use Rattle.block.specs.Laws.Sources.{stored_values}
-use Rattle.std.proofs.Common.{rules}
 use Rattle.block.proofs.store_user.Goals as goal
 
 pub returns : goal.returns

@@ -1,6 +1,5 @@
 use Rattle.bits.specs.Cases.{when◌then◌else◌}
 use Rattle.block.specs.Laws.Sources.{sources_of}
-use Rattle.std.proofs.Common.{rules}
 use Rattle.block.proofs.take_sources.Goals as goal
 
 pub returns-then-moves : goal.returns-then-moves

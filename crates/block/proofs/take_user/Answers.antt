@@ -1,6 +1,6 @@
 use Rattle.banks.specs.Banks.{user_reg_of}
-use Rattle.block.specs.Laws.Sources.{Values, values_next}
-use Rattle.std.proofs.Common.{rules, ◌-◌, ◌≡◌, refl, ◌∙◌, arith, length, length-set}
+use Rattle.block.specs.Laws.Sources.{values_next}
+use Rattle.std.proofs.Common.{refl, ◌∙◌, arith, length-set}
 use Rattle.block.proofs.take_user.Goals as goal
 
 pub loop-i-init : goal.loop-i-init

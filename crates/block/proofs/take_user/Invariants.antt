@@ -1,6 +1,6 @@
-use Rattle.std.proofs.Common.{◌-◌, ◌≡◌, refl, ◌∙◌, arith, length, length-set}
+use Rattle.std.proofs.Common.{◌-◌, ◌≡◌, length}
 use Rattle.banks.specs.Banks.{user_reg_of}
-use Rattle.block.specs.Laws.Sources.{Values, values_next}
+use Rattle.block.specs.Laws.Sources.{Values}
 use Rattle.block.proofs.take_user.Given as goal
 
 abbrev pub invariant-loop-i : goal.invariant-loop-i

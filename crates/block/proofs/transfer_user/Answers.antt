@@ -1,5 +1,5 @@
 use Rattle.block.specs.Laws.Ways.{moves_user, refuses_user}
-use Rattle.std.proofs.Common.{rules, sym, ◌∙◌}
+use Rattle.std.proofs.Common.{sym, ◌∙◌}
 use Rattle.block.proofs.transfer_user.Goals as goal
 
 pub move_user-machine-requires : goal.move_user-machine-requires

@@ -1,6 +1,5 @@
 use Rattle.bits.specs.Cases.{cases}
 use Rattle.block.specs.Block.{back_of}
-use Rattle.std.proofs.Common.{rules}
 use Rattle.block.proofs.write_back.Goals as goal
 
 pub returns-then-op-eq1 : goal.returns-then-op-eq1

@@ -1,6 +1,6 @@
 use Rattle.bits.specs.Cases.{if_yes, if_no}
 use Rattle.block.specs.Block.{unlisted_of}
-use Rattle.std.proofs.Common.{rules, sym, ◌∙◌}
+use Rattle.std.proofs.Common.{sym, ◌∙◌}
 use Rattle.block.proofs.write_unlisted.Goals as goal
 
 pub returns-then-listed : goal.returns-then-listed

@@ -1,5 +1,5 @@
 -- Row P13 of document 01, section 8, as a chain that the machine takes: what demand 3 asks of a chain can be met.
-use Rattle.std.specs.Prelude.{◌≡◌, refl, Bool, true, false, ◌&&◌, List, [], ◌∷◌, ℕ, zero, suc, ◌^◌, ◌<◌, replicate}
+use Rattle.std.specs.Prelude.{◌≡◌, refl, Bool, true, false, ◌&&◌, List, [], ◌∷◌, ℕ, zero, suc, ◌^◌, replicate}
 use Rattle.std.proofs.lemmas.Bool.{false≢true}
 use Rattle.std.proofs.Common.{ltb-true, lit<}
 use Rattle.bits.specs.Cases.{when◌then◌else◌, ◌<?◌}

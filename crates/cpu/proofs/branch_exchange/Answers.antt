@@ -1,6 +1,5 @@
 use Rattle.bits.specs.Cases.{when◌then◌else◌, cases}
 use Rattle.cpu.specs.Outcomes.{exchanged_of}
-use Rattle.std.proofs.Common.{rules}
 use Rattle.cpu.proofs.branch_exchange.Goals as goal
 
 pub returns-then-thumb : goal.returns-then-thumb

@@ -1,6 +1,5 @@
 use Rattle.bits.specs.Cases.{cases}
 use Rattle.cpu.specs.Outcomes.{landed_of}
-use Rattle.std.proofs.Common.{rules}
 use Rattle.cpu.proofs.land.Goals as goal
 
 pub returns-then-rd-eq15 : goal.returns-then-rd-eq15

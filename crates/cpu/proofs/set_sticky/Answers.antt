@@ -1,6 +1,5 @@
 use Rattle.bits.specs.Cases.{cases}
 use Rattle.cpu.specs.Outcomes.{sticky}
-use Rattle.std.proofs.Common.{rules}
 use Rattle.cpu.proofs.set_sticky.Goals as goal
 
 pub returns-then-on : goal.returns-then-on

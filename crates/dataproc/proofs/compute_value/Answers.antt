@@ -1,6 +1,5 @@
 use Rattle.bits.specs.Cases.{when◌then◌else◌, cases}
 use Rattle.dataproc.specs.Laws.Places.{value_of}
-use Rattle.std.proofs.Common.{rules}
 use Rattle.dataproc.proofs.compute_value.Goals as goal
 
 pub returns-in-0 : goal.returns-in-0

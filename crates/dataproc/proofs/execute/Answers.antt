@@ -1,6 +1,6 @@
 use Rattle.dataproc.specs.Dataproc.{dataproc_of}
 use Rattle.dataproc.specs.Laws.Places.{placed_with_flags_lem, placed_value_lem}
-use Rattle.std.proofs.Common.{rules, eq-eqb, ne_eqb}
+use Rattle.std.proofs.Common.{eq-eqb, ne_eqb}
 use Rattle.dataproc.proofs.execute.Goals as goal
 
 pub returns-then-op-eq1 : goal.returns-then-op-eq1

@@ -1,6 +1,5 @@
 use Rattle.bits.specs.Cases.{cases}
 use Rattle.dataproc.specs.Laws.Places.{placed_value}
-use Rattle.std.proofs.Common.{rules}
 use Rattle.dataproc.proofs.place_value.Goals as goal
 
 pub returns-then-op-eq2 : goal.returns-then-op-eq2

@@ -1,6 +1,5 @@
 use Rattle.bits.specs.Cases.{cases}
 use Rattle.dataproc.specs.Laws.Places.{placed_with_flags}
-use Rattle.std.proofs.Common.{rules}
 use Rattle.dataproc.proofs.place_with_flags.Goals as goal
 
 pub returns-then-returns : goal.returns-then-returns

@@ -1,6 +1,5 @@
 use Rattle.bits.specs.Cases.{cases}
 use Rattle.dataproc.specs.Laws.Places.{put_unless}
-use Rattle.std.proofs.Common.{rules}
 use Rattle.dataproc.proofs.put_unless.Goals as goal
 
 pub returns-then-keep : goal.returns-then-keep

@@ -1,6 +1,6 @@
 use Rattle.bits.specs.Cases.{when◌then◌else◌}
 use Rattle.dataproc.specs.Dataproc.{read_of}
-use Rattle.std.proofs.Common.{rules, ne_eqb}
+use Rattle.std.proofs.Common.{ne_eqb}
 use Rattle.dataproc.proofs.read_late.Goals as goal
 
 pub returns-then-r-eq15 : goal.returns-then-r-eq15

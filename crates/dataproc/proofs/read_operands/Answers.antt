@@ -1,7 +1,7 @@
 use Rattle.bits.specs.Cases.{cases}
 use Rattle.dataproc.specs.Dataproc.{operand_of}
 use Rattle.dataproc.specs.Laws.Operands.{plain, by_register, by_immediate, first_immediate, first_early, first_late}
-use Rattle.std.proofs.Common.{rules, arith}
+use Rattle.std.proofs.Common.{arith}
 use Rattle.dataproc.proofs.read_operands.Goals as goal
 
 pub returns-then-op-eq1 : goal.returns-then-op-eq1

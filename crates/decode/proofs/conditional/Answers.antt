@@ -1,6 +1,5 @@
 use Rattle.bits.specs.Cases.{cases}
 use Rattle.decode.specs.Families.{conditional_of}
-use Rattle.std.proofs.Common.{rules}
 use Rattle.decode.proofs.conditional.Goals as goal
 
 pub returns-then-hi-eq0 : goal.returns-then-hi-eq0

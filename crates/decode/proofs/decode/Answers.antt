@@ -1,6 +1,5 @@
 use Rattle.bits.specs.Cases.{cases}
 use Rattle.decode.specs.Families.{family_of}
-use Rattle.std.proofs.Common.{rules}
 use Rattle.decode.proofs.decode.Goals as goal
 
 pub returns-then-op-eq15 : goal.returns-then-op-eq15

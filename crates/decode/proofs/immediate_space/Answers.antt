@@ -1,6 +1,5 @@
 use Rattle.bits.specs.Cases.{cases}
 use Rattle.decode.specs.Families.{immediate_space_of}
-use Rattle.std.proofs.Common.{rules}
 use Rattle.decode.proofs.immediate_space.Goals as goal
 
 pub returns-then-hi-eq1 : goal.returns-then-hi-eq1

@@ -1,6 +1,5 @@
 use Rattle.bits.specs.Cases.{cases}
 use Rattle.decode.specs.Families.{miscellaneous_of}
-use Rattle.std.proofs.Common.{rules}
 use Rattle.decode.proofs.miscellaneous.Goals as goal
 
 pub returns-then-lo-eq0 : goal.returns-then-lo-eq0

@@ -1,6 +1,5 @@
 use Rattle.bits.specs.Cases.{cases}
 use Rattle.decode.specs.Families.{multiply_or_swap_of}
-use Rattle.std.proofs.Common.{rules}
 use Rattle.decode.proofs.multiply_or_swap.Goals as goal
 
 pub returns-then-hi-eq1-2 : goal.returns-then-hi-eq1-2

@@ -1,5 +1,4 @@
 use Rattle.bits.specs.Cases.{cases}
-use Rattle.std.proofs.Common.{rules}
 use Rattle.decode.proofs.operation_space.Goals as goal
 
 pub returns-then-hole : goal.returns-then-hole

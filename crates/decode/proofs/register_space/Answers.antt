@@ -1,7 +1,7 @@
 use mathlib.Core.Bool.{and-false}
 use Rattle.bits.specs.Cases.{when◌then◌else◌}
 use Rattle.decode.specs.Families.{register_space_of}
-use Rattle.std.proofs.Common.{rules, eq-eqb, ne_eqb}
+use Rattle.std.proofs.Common.{eq-eqb, ne_eqb}
 use Rattle.decode.proofs.register_space.Goals as goal
 
 pub returns-then-lo-eq0 : goal.returns-then-lo-eq0

@@ -1,6 +1,5 @@
 use Rattle.bits.specs.Cases.{cases}
 use Rattle.decode.specs.Families.{unconditional_of}
-use Rattle.std.proofs.Common.{rules}
 use Rattle.decode.proofs.unconditional.Goals as goal
 
 pub returns-then-hi-eq5 : goal.returns-then-hi-eq5

@@ -1,6 +1,6 @@
 use Rattle.bits.specs.Cases.{when◌then◌else◌}
 use Rattle.engine.specs.Laws.Gate.{gate_of}
-use Rattle.std.proofs.Common.{rules, sym, ◌∙◌, lt-ltb, le-ltb}
+use Rattle.std.proofs.Common.{sym, ◌∙◌, lt-ltb, le-ltb}
 use Rattle.engine.proofs.admit.Goals as goal
 
 pub returns-then-len-gt65536 : goal.returns-then-len-gt65536

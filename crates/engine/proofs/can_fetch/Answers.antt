@@ -1,5 +1,5 @@
 use Rattle.engine.specs.Step.{fetches}
-use Rattle.std.proofs.Common.{rules, eq-eqb, ne_eqb}
+use Rattle.std.proofs.Common.{eq-eqb, ne_eqb}
 use Rattle.engine.proofs.can_fetch.Goals as goal
 
 pub returns-then-at-eq0 : goal.returns-then-at-eq0

@@ -2,8 +2,8 @@ use Rattle.cpu.specs.declared.Kind.TheVariants as kind
 use Rattle.cpu.specs.Answers.{is_call}
 use Rattle.engine.specs.declared.Stepped.{Stepped}
 use Rattle.engine.specs.Step.{settled_of}
-use Rattle.engine.specs.Laws.Walk.{walk_of, Walking, Turned, step_thumb, step_lost, walk_none, goes_refused, turned_by, turned_on, turned_stop, turned_refused, stop_refuses, block_no_call, done_going}
-use Rattle.std.proofs.Common.{rules, ◌≡◌, refl, sym, ap, ◌∙◌, List, arith, ℕ, ◌+◌, ◌-◌, ◌^◌, ◌<◌}
+use Rattle.engine.specs.Laws.Walk.{walk_of, step_thumb, step_lost, walk_none, goes_refused, turned_by, turned_on, turned_stop, turned_refused, stop_refuses, block_no_call, done_going}
+use Rattle.std.proofs.Common.{◌≡◌, refl, sym, ap, ◌∙◌, List, arith, ℕ, ◌-◌}
 use Rattle.engine.proofs.go.Goals as goal
 
 pub loop-k-init : goal.loop-k-init

@@ -1,5 +1,5 @@
 use Rattle.engine.specs.Laws.Walk.{end_of, walk_of_one}
-use Rattle.std.proofs.Common.{rules, ap, ◌∙◌}
+use Rattle.std.proofs.Common.{ap, ◌∙◌}
 use Rattle.engine.proofs.go_once.Goals as goal
 
 pub returns : goal.returns

@@ -1,6 +1,6 @@
 use Rattle.bits.specs.Cases.{if_no, cases}
 use Rattle.engine.specs.Laws.Walk.{lacks_next}
-use Rattle.std.proofs.Common.{rules, sym}
+use Rattle.std.proofs.Common.{sym}
 use Rattle.engine.proofs.lacks_next.Goals as goal
 
 pub returns-then-given : goal.returns-then-given

@@ -1,5 +1,5 @@
 use Rattle.engine.specs.Laws.Walk.{run_timed, run_ended, run_shut}
-use Rattle.std.proofs.Common.{rules, sym, ◌∙◌}
+use Rattle.std.proofs.Common.{sym, ◌∙◌}
 use Rattle.engine.proofs.run.Goals as goal
 
 pub go-f-requires : goal.go-f-requires

@@ -1,7 +1,7 @@
 use Rattle.engine.specs.Run.{ended_of, go_of}
 use Rattle.engine.specs.Laws.Gate.{gated_by}
 use Rattle.engine.specs.Laws.Going.{go_on, go_stop, go_none}
-use Rattle.std.proofs.Common.{rules, ◌≡◌, refl, sym, ap, ◌∙◌, arith, ℕ, ◌+◌, ◌-◌, ◌^◌, ◌<◌, ◌≤◌, length}
+use Rattle.std.proofs.Common.{◌≡◌, refl, sym, ap, ◌∙◌, arith, ℕ, ◌+◌, ◌-◌, ◌^◌, ◌<◌, ◌≤◌}
 use Rattle.engine.proofs.run_plain.Goals as goal
 
 pub loop-k-init : goal.loop-k-init

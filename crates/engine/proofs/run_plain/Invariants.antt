@@ -1,7 +1,5 @@
-use Rattle.std.proofs.Common.{◌≡◌, refl, sym, ap, ◌∙◌, arith, ℕ, ◌+◌, ◌-◌, ◌^◌, ◌<◌, ◌≤◌, length}
-use Rattle.engine.specs.Run.{ended_of, go_of}
-use Rattle.engine.specs.Laws.Gate.{gated_by}
-use Rattle.engine.specs.Laws.Going.{go_on, go_stop, go_none}
+use Rattle.std.proofs.Common.{◌≡◌, ◌-◌, ◌≤◌, length}
+use Rattle.engine.specs.Run.{go_of}
 use Rattle.engine.proofs.run_plain.Given as goal
 
 abbrev pub invariant-loop-k : goal.invariant-loop-k

@@ -1,6 +1,6 @@
 use Rattle.bits.specs.Cases.{when◌then◌else◌}
 use Rattle.engine.specs.Step.{blocked_of}
-use Rattle.std.proofs.Common.{rules, sym, ◌∙◌}
+use Rattle.std.proofs.Common.{sym, ◌∙◌}
 use Rattle.engine.proofs.settle_block.Goals as goal
 
 pub returns-then-done : goal.returns-then-done

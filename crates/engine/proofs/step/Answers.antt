@@ -2,7 +2,7 @@ use Rattle.bits.specs.Cases.{when◌then◌else◌}
 use Rattle.engine.specs.Step.{step_of}
 use Rattle.engine.specs.Laws.Gate.{gated_by}
 use Rattle.engine.specs.Laws.Walk.{step_by}
-use Rattle.std.proofs.Common.{rules, sym, ◌∙◌}
+use Rattle.std.proofs.Common.{sym, ◌∙◌}
 use Rattle.engine.proofs.step.Goals as goal
 
 pub go_once-requires : goal.go_once-requires

@@ -1,7 +1,6 @@
 use Rattle.bits.specs.Cases.{cases}
 use Rattle.engine.specs.Laws.Fetch.{fetches_inside}
 use Rattle.engine.specs.Laws.Walk.{next_op, next_fetched}
-use Rattle.std.proofs.Common.{rules}
 use Rattle.engine.proofs.take_next.Goals as goal
 
 pub read32-requires : goal.read32-requires

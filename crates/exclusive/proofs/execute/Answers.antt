@@ -1,6 +1,5 @@
 use Rattle.bits.specs.Cases.{cases}
 use Rattle.exclusive.specs.Exclusive.{exclusive_of}
-use Rattle.std.proofs.Common.{rules}
 use Rattle.exclusive.proofs.execute.Goals as goal
 
 pub returns-then-op-eq1-2 : goal.returns-then-op-eq1-2

@@ -2,7 +2,7 @@ use Rattle.bits.specs.Cases.{when◌then◌else◌}
 use Rattle.memory.specs.Laws.Plans.{inside_two}
 use Rattle.exclusive.specs.Exclusive.{ldrexd_of}
 use Rattle.transfer.specs.Laws.Guards.{guarded_inside, guarded_outside, beside_is}
-use Rattle.std.proofs.Common.{rules, sym, ◌∙◌, ne_eqb}
+use Rattle.std.proofs.Common.{sym, ◌∙◌, ne_eqb}
 use Rattle.exclusive.proofs.load_pair.Goals as goal
 
 pub read32-requires : goal.read32-requires

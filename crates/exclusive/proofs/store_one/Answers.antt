@@ -1,8 +1,7 @@
 use Rattle.bits.specs.Cases.{when◌then◌else◌}
-use Rattle.memory.specs.Laws.Plans.{told_inside}
 use Rattle.exclusive.specs.Exclusive.{strex_of}
 use Rattle.transfer.specs.Laws.Guards.{guard_open, guard_shut, beside_is}
-use Rattle.std.proofs.Common.{rules, sym, ◌∙◌}
+use Rattle.std.proofs.Common.{sym, ◌∙◌}
 use Rattle.exclusive.proofs.store_one.Goals as goal
 
 pub returns-then-reaches_out : goal.returns-then-reaches_out

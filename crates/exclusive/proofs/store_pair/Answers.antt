@@ -3,7 +3,7 @@ use Rattle.memory.specs.Laws.Bytes.{length_word}
 use Rattle.memory.specs.Laws.Plans.{inside_two}
 use Rattle.exclusive.specs.Exclusive.{strexd_of}
 use Rattle.transfer.specs.Laws.Guards.{guarded_inside, guarded_outside, beside_is}
-use Rattle.std.proofs.Common.{rules, sym, ◌∙◌, ne_eqb}
+use Rattle.std.proofs.Common.{sym, ◌∙◌, ne_eqb}
 use Rattle.exclusive.proofs.store_pair.Goals as goal
 
 pub write32-requires : goal.write32-requires

@@ -1,7 +1,6 @@
-use Rattle.memory.specs.Laws.Plans.{told_inside}
 use Rattle.exclusive.specs.Exclusive.{swap_of}
 use Rattle.transfer.specs.Laws.Guards.{guard_open, guard_shut, beside_is}
-use Rattle.std.proofs.Common.{rules, sym, ◌∙◌}
+use Rattle.std.proofs.Common.{sym, ◌∙◌}
 use Rattle.exclusive.proofs.swap.Goals as goal
 
 pub returns-then-reaches_out : goal.returns-then-reaches_out

@@ -1,5 +1,4 @@
 use Rattle.exports.specs.Steps.{left_by_run}
-use Rattle.std.proofs.Common.{rules}
 use Rattle.exports.proofs.leave_run.Goals as goal
 
 pub returns : goal.returns

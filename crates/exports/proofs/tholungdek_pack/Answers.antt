@@ -1,5 +1,4 @@
 use Rattle.exports.specs.Calls.{pack_call_of}
-use Rattle.std.proofs.Common.{rules}
 use Rattle.exports.proofs.tholungdek_pack.Goals as goal
 
 pub returns : goal.returns

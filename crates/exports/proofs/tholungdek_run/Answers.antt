@@ -1,6 +1,6 @@
 use Rattle.exports.specs.Steps.{run_call_of}
 use Rattle.exports.specs.Laws.Measured.{both_fit, answer_unfit, bytes_unfit, run_beside}
-use Rattle.std.proofs.Common.{rules, sym, ◌∙◌}
+use Rattle.std.proofs.Common.{sym, ◌∙◌}
 use Rattle.exports.proofs.tholungdek_run.Goals as goal
 
 pub returns-then-answer-eq16 : goal.returns-then-answer-eq16

@@ -1,5 +1,4 @@
 use Rattle.exports.specs.Calls.{shift_register_call_of}
-use Rattle.std.proofs.Common.{rules}
 use Rattle.exports.proofs.tholungdek_shift_register.Goals as goal
 
 pub returns : goal.returns

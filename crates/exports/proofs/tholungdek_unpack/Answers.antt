@@ -1,5 +1,4 @@
 use Rattle.exports.specs.Calls.{unpack_call_of}
-use Rattle.std.proofs.Common.{rules}
 use Rattle.exports.proofs.tholungdek_unpack.Goals as goal
 
 pub returns : goal.returns

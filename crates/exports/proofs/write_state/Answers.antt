@@ -1,6 +1,5 @@
 use Rattle.bits.specs.Cases.{when◌then◌else◌}
 use Rattle.exports.specs.Steps.{written_state}
-use Rattle.std.proofs.Common.{rules}
 use Rattle.exports.proofs.write_state.Goals as goal
 
 pub returns-then-changed : goal.returns-then-changed

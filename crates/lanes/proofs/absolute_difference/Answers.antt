@@ -1,6 +1,5 @@
 use Rattle.bits.specs.Cases.{cases}
 use Rattle.lanes.specs.Bytes.{distance}
-use Rattle.std.proofs.Common.{rules}
 use Rattle.lanes.proofs.absolute_difference.Goals as goal
 
 pub returns-then-x-y : goal.returns-then-x-y

@@ -1,6 +1,6 @@
-use Rattle.bits.specs.Laws.Range.{is_nat, told, read_back, read_within}
+use Rattle.bits.specs.Laws.Range.{is_nat, read_back}
 use Rattle.lanes.specs.Packing.{added_of}
-use Rattle.std.proofs.Common.{rules, ◌/◌, ◌%◌, lit<, lit≤, arith}
+use Rattle.std.proofs.Common.{◌/◌, ◌%◌, lit<, arith}
 use Rattle.lanes.proofs.add_extended.Goals as goal
 
 pub returns-in-Sxtab16 : goal.returns-in-Sxtab16

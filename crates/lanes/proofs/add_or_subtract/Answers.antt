@@ -1,7 +1,7 @@
 use Rattle.bits.specs.Cases.{when◌then◌else◌}
-use Rattle.bits.specs.Laws.Range.{is_call, fit_add, fit_sub, is_add, is_sub}
+use Rattle.bits.specs.Laws.Range.{is_call, is_add, is_sub}
 use Rattle.lanes.specs.Parallel.{result_of}
-use Rattle.std.proofs.Common.{rules, refl, lit<}
+use Rattle.std.proofs.Common.{refl, lit<}
 use Rattle.lanes.proofs.add_or_subtract.Goals as goal
 
 pub returns-then-sub : goal.returns-then-sub

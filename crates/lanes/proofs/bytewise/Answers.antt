@@ -1,5 +1,4 @@
 use Rattle.lanes.specs.Parallel.{bytewise_of}
-use Rattle.std.proofs.Common.{rules}
 use Rattle.lanes.proofs.bytewise.Goals as goal
 
 pub returns : goal.returns

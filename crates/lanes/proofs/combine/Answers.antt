@@ -1,6 +1,5 @@
 use Rattle.lanes.specs.Parallel.{lane_of}
 use Rattle.bits.specs.Laws.Range.{read_back}
-use Rattle.std.proofs.Common.{rules}
 use Rattle.lanes.proofs.combine.Goals as goal
 
 pub returns-in-Signed : goal.returns-in-Signed

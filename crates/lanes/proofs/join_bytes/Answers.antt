@@ -1,5 +1,4 @@
 use Rattle.lanes.specs.Parallel.{bytes_of}
-use Rattle.std.proofs.Common.{rules}
 use Rattle.lanes.proofs.join_bytes.Goals as goal
 
 pub returns : goal.returns

@@ -1,5 +1,4 @@
 use Rattle.lanes.specs.Parallel.{halves_of}
-use Rattle.std.proofs.Common.{rules}
 use Rattle.lanes.proofs.join_halves.Goals as goal
 
 pub returns : goal.returns

@@ -1,5 +1,4 @@
 use Rattle.lanes.specs.Parallel.{parallel_of}
-use Rattle.std.proofs.Common.{rules}
 use Rattle.lanes.proofs.parallel.Goals as goal
 
 pub returns-in-Add16 : goal.returns-in-Add16

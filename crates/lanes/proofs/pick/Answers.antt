@@ -1,5 +1,4 @@
 use Rattle.bits.specs.Cases.{when◌then◌else◌}
-use Rattle.std.proofs.Common.{rules}
 use Rattle.lanes.proofs.pick.Goals as goal
 
 pub returns-then-set : goal.returns-then-set

@@ -1,6 +1,6 @@
-use Rattle.bits.specs.Laws.Range.{fit_is, is_again, told}
+use Rattle.bits.specs.Laws.Range.{is_again, told}
 use Rattle.lanes.specs.Laws.Lanes.{is_low, is_high}
-use Rattle.std.proofs.Common.{rules, lit<}
+use Rattle.std.proofs.Common.{lit<}
 use Rattle.lanes.proofs.read_signed.Goals as goal
 
 pub returns-then-x-power : goal.returns-then-x-power

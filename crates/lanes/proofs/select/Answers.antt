@@ -1,5 +1,4 @@
 use Rattle.lanes.specs.Bytes.{sel_of}
-use Rattle.std.proofs.Common.{rules}
 use Rattle.lanes.proofs.select.Goals as goal
 
 pub returns : goal.returns

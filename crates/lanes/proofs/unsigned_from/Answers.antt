@@ -1,6 +1,6 @@
 use Rattle.bits.specs.Cases.{when◌then◌else◌}
 use Rattle.lanes.specs.Parallel.{unsigned_from}
-use Rattle.std.proofs.Common.{rules, refl, arith, pow_mono}
+use Rattle.std.proofs.Common.{refl, arith, pow_mono}
 use Rattle.lanes.proofs.unsigned_from.Goals as goal
 
 pub returns-then-sub : goal.returns-then-sub

@@ -1,5 +1,4 @@
 use Rattle.lanes.specs.Bytes.{usad8_of}
-use Rattle.std.proofs.Common.{rules}
 use Rattle.lanes.proofs.usad8.Goals as goal
 
 pub returns : goal.returns

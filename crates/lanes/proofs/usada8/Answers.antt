@@ -1,5 +1,4 @@
 use Rattle.lanes.specs.Bytes.{usada8_of}
-use Rattle.std.proofs.Common.{rules}
 use Rattle.lanes.proofs.usada8.Goals as goal
 
 pub returns : goal.returns

@@ -1,6 +1,5 @@
 use mir.Facts.{to_z-of_z}
 use Rattle.bits.specs.Laws.Wrap.{wrap_low}
-use Rattle.std.proofs.Common.{rules}
 use Rattle.lanes.proofs.wrap_bits.Goals as goal
 
 pub returns : goal.returns

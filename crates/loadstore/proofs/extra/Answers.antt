@@ -1,5 +1,4 @@
 use Rattle.loadstore.specs.Extra.{extra_of}
-use Rattle.std.proofs.Common.{rules}
 use Rattle.loadstore.proofs.extra.Goals as goal
 
 pub returns : goal.returns

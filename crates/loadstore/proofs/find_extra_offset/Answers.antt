@@ -1,6 +1,5 @@
 use Rattle.bits.specs.Cases.{cases}
 use Rattle.loadstore.specs.Extra.{extra_offset_of}
-use Rattle.std.proofs.Common.{rules}
 use Rattle.loadstore.proofs.find_extra_offset.Goals as goal
 
 pub returns-then-op-eq1 : goal.returns-then-op-eq1

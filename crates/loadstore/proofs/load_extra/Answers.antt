@@ -2,7 +2,7 @@ use Rattle.bits.specs.Cases.{when◌then◌else◌}
 use Rattle.memory.specs.Bytes.{read_of}
 use Rattle.loadstore.specs.Extra.{extra_loads_of}
 use Rattle.loadstore.specs.Laws.Loads.{widened_of}
-use Rattle.std.proofs.Common.{rules, ne_eqb}
+use Rattle.std.proofs.Common.{ne_eqb}
 use Rattle.loadstore.proofs.load_extra.Goals as goal
 
 pub returns-then-op-eq1 : goal.returns-then-op-eq1

@@ -1,7 +1,7 @@
 use Rattle.memory.specs.Laws.Plans.{inside_two}
 use Rattle.transfer.specs.Transfers.{guarded_of}
 use Rattle.transfer.specs.Laws.Guards.{beside_is}
-use Rattle.std.proofs.Common.{rules, sym, ◌∙◌, arith}
+use Rattle.std.proofs.Common.{sym, ◌∙◌, arith}
 use Rattle.loadstore.proofs.load_pair.Goals as goal
 
 pub read32-low-requires : goal.read32-low-requires

@@ -1,7 +1,7 @@
 use Rattle.bits.specs.Cases.{when◌then◌else◌, cases}
 use Rattle.loadstore.specs.Extra.{extra_at}
 use Rattle.transfer.specs.Laws.Guards.{beside_is}
-use Rattle.std.proofs.Common.{rules, ne_eqb}
+use Rattle.std.proofs.Common.{ne_eqb}
 use Rattle.loadstore.proofs.move_extra.Goals as goal
 
 pub returns-then-op-eq15 : goal.returns-then-op-eq15

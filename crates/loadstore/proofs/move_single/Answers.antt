@@ -1,8 +1,7 @@
-use Rattle.memory.specs.Laws.Plans.{reached}
 use Rattle.bits.specs.Cases.{if_yes, if_no}
 use Rattle.transfer.specs.Laws.Guards.{guard_shut, guard_open, beside_is}
 use Rattle.loadstore.specs.Single.{single_at}
-use Rattle.std.proofs.Common.{rules, sym, ◌∙◌, eq-eqb, ne_eqb}
+use Rattle.std.proofs.Common.{sym, ◌∙◌, eq-eqb, ne_eqb}
 use Rattle.loadstore.proofs.move_single.Goals as goal
 
 pub returns-then-reaches_out : goal.returns-then-reaches_out

@@ -1,5 +1,4 @@
 use Rattle.loadstore.specs.Single.{single_of}
-use Rattle.std.proofs.Common.{rules}
 use Rattle.loadstore.proofs.single.Goals as goal
 
 pub returns : goal.returns

@@ -1,6 +1,5 @@
-use Rattle.memory.specs.Laws.Plans.{reached}
 use Rattle.transfer.specs.Laws.Guards.{guard_shut, guard_open}
-use Rattle.std.proofs.Common.{rules, sym, ◌∙◌}
+use Rattle.std.proofs.Common.{sym, ◌∙◌}
 use Rattle.loadstore.proofs.store_half.Goals as goal
 
 pub returns-then-reaches_out : goal.returns-then-reaches_out

@@ -1,6 +1,5 @@
 use Rattle.bits.specs.Cases.{cases}
 use Rattle.loadstore.specs.Single.{taken_of}
-use Rattle.std.proofs.Common.{rules}
 use Rattle.loadstore.proofs.take.Goals as goal
 
 pub returns-then-rd-eq15 : goal.returns-then-rd-eq15

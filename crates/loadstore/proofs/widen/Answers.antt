@@ -1,6 +1,5 @@
 use Rattle.bits.specs.Cases.{cases}
 use Rattle.loadstore.specs.Laws.Loads.{widened_of}
-use Rattle.std.proofs.Common.{rules}
 use Rattle.loadstore.proofs.widen.Goals as goal
 
 pub returns-then-sign : goal.returns-then-sign

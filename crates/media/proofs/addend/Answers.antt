@@ -1,6 +1,5 @@
 use Rattle.bits.specs.Cases.{cases}
 use Rattle.media.specs.Media.{addend_of}
-use Rattle.std.proofs.Common.{rules}
 use Rattle.media.proofs.addend.Goals as goal
 
 pub returns-then-op-eq15 : goal.returns-then-op-eq15

@@ -1,6 +1,5 @@
 use Rattle.bits.specs.Cases.{cases}
 use Rattle.media.specs.Media.{media_of}
-use Rattle.std.proofs.Common.{rules}
 use Rattle.media.proofs.execute.Goals as goal
 
 pub returns-then-op-eq0 : goal.returns-then-op-eq0

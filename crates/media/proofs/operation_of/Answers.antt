@@ -1,6 +1,5 @@
 use Rattle.bits.specs.Cases.{when◌then◌else◌, cases}
 use Rattle.media.specs.Media.{operation_of}
-use Rattle.std.proofs.Common.{rules}
 use Rattle.media.proofs.operation_of.Goals as goal
 
 pub returns-in-0 : goal.returns-in-0

@@ -1,6 +1,5 @@
 use Rattle.bits.specs.Cases.{cases}
 use Rattle.media.specs.Media.{parallel_family_of}
-use Rattle.std.proofs.Common.{rules}
 use Rattle.media.proofs.parallel.Goals as goal
 
 pub returns-then-allocated : goal.returns-then-allocated

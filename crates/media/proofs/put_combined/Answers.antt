@@ -1,6 +1,5 @@
 use Rattle.bits.specs.Cases.{cases}
 use Rattle.media.specs.Media.{combined_of}
-use Rattle.std.proofs.Common.{rules}
 use Rattle.media.proofs.put_combined.Goals as goal
 
 pub returns-then-x : goal.returns-then-x

@@ -1,6 +1,5 @@
 use Rattle.bits.specs.Cases.{when◌then◌else◌}
 use Rattle.media.specs.Media.{reversal_of}
-use Rattle.std.proofs.Common.{rules}
 use Rattle.media.proofs.reverse.Goals as goal
 
 pub returns-then-rev : goal.returns-then-rev

@@ -1,6 +1,5 @@
 use Rattle.bits.specs.Cases.{cases}
 use Rattle.media.specs.Media.{saturate16_of}
-use Rattle.std.proofs.Common.{rules}
 use Rattle.media.proofs.saturate16.Goals as goal
 
 pub returns-then-op-eq1 : goal.returns-then-op-eq1

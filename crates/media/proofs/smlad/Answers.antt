@@ -1,6 +1,6 @@
 use Rattle.bits.specs.Cases.{when◌then◌else◌}
 use Rattle.media.specs.Media.{dual_word_of}
-use Rattle.std.proofs.Common.{rules, ne_eqb}
+use Rattle.std.proofs.Common.{ne_eqb}
 use Rattle.media.proofs.smlad.Goals as goal
 
 pub returns-then-op-eq15 : goal.returns-then-op-eq15

@@ -1,6 +1,6 @@
 use Rattle.bits.specs.Cases.{when◌then◌else◌}
 use Rattle.media.specs.Media.{most_word_of}
-use Rattle.std.proofs.Common.{rules, ne_eqb}
+use Rattle.std.proofs.Common.{ne_eqb}
 use Rattle.media.proofs.smmla.Goals as goal
 
 pub returns-then-op-eq15 : goal.returns-then-op-eq15

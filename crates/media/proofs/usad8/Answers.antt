@@ -1,6 +1,5 @@
 use Rattle.bits.specs.Cases.{cases}
 use Rattle.media.specs.Media.{usad_of}
-use Rattle.std.proofs.Common.{rules}
 use Rattle.media.proofs.usad8.Goals as goal
 
 pub returns-then-op-eq15 : goal.returns-then-op-eq15

@@ -1,6 +1,5 @@
 use Rattle.bits.specs.Cases.{when◌then◌else◌, cases}
 use Rattle.media.specs.Media.{variant_of}
-use Rattle.std.proofs.Common.{rules}
 use Rattle.media.proofs.variant_of.Goals as goal
 
 pub returns-in-1 : goal.returns-in-1

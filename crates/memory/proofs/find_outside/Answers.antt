@@ -1,6 +1,5 @@
-use Rattle.memory.specs.Plans.{outside_of}
 use Rattle.memory.specs.Laws.Plans.{out_here, out_later, out_none}
-use Rattle.std.proofs.Common.{rules, ◌≡◌, refl, sym, ◌∙◌}
+use Rattle.std.proofs.Common.{sym, ◌∙◌}
 use Rattle.memory.proofs.find_outside.Goals as goal
 
 pub returns-then-reaches_out : goal.returns-then-reaches_out

@@ -1,6 +1,5 @@
-use Rattle.std.proofs.Common.{◌≡◌, refl, sym, ◌∙◌}
+use Rattle.std.proofs.Common.{◌≡◌}
 use Rattle.memory.specs.Plans.{outside_of}
-use Rattle.memory.specs.Laws.Plans.{out_here, out_later, out_none}
 use Rattle.memory.proofs.find_outside.Given as goal
 
 abbrev pub invariant-loop-left : goal.invariant-loop-left

@@ -1,6 +1,5 @@
 use Rattle.bits.specs.Cases.{cases}
 use Rattle.memory.specs.Bytes.{read_of}
-use Rattle.std.proofs.Common.{rules}
 use Rattle.memory.proofs.load.Goals as goal
 
 pub returns-then-width-eq1 : goal.returns-then-width-eq1

@@ -1,5 +1,4 @@
-use Rattle.memory.specs.Laws.Plans.{Loading, loading_first, loading_here, loading_next, loading_last}
-use Rattle.std.proofs.Common.{rules, ◌-◌}
+use Rattle.memory.specs.Laws.Plans.{loading_first, loading_here, loading_next, loading_last}
 use Rattle.memory.proofs.load_words.Goals as goal
 
 pub loop-i-init : goal.loop-i-init

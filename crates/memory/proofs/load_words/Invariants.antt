@@ -1,5 +1,5 @@
 use Rattle.std.proofs.Common.{◌-◌}
-use Rattle.memory.specs.Laws.Plans.{Loading, loading_first, loading_here, loading_next, loading_last}
+use Rattle.memory.specs.Laws.Plans.{Loading}
 use Rattle.memory.proofs.load_words.Given as goal
 
 abbrev pub invariant-loop-i : goal.invariant-loop-i

@@ -1,5 +1,4 @@
 use Rattle.memory.specs.Plans.{performed_of}
-use Rattle.std.proofs.Common.{rules, sym, ◌∙◌}
 use Rattle.memory.proofs.perform_store.Goals as goal
 
 pub returns-in-Inside : goal.returns-in-Inside

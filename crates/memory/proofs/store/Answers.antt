@@ -1,6 +1,5 @@
 use Rattle.bits.specs.Cases.{cases}
 use Rattle.memory.specs.Bytes.{written_of}
-use Rattle.std.proofs.Common.{rules}
 use Rattle.memory.proofs.store.Goals as goal
 
 pub returns-then-width-eq1 : goal.returns-then-width-eq1

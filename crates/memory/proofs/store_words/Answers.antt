@@ -1,5 +1,5 @@
-use Rattle.memory.specs.Laws.Plans.{Storing, storing_first, storing_here, storing_next, storing_last}
-use Rattle.std.proofs.Common.{rules, ◌-◌, ◌≡◌, arith, length}
+use Rattle.memory.specs.Laws.Plans.{storing_first, storing_here, storing_next, storing_last}
+use Rattle.std.proofs.Common.{rules, arith}
 use Rattle.memory.proofs.store_words.Goals as goal
 
 pub loop-i-init : goal.loop-i-init

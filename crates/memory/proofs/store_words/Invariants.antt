@@ -1,5 +1,5 @@
-use Rattle.std.proofs.Common.{◌-◌, ◌≡◌, arith, length}
-use Rattle.memory.specs.Laws.Plans.{Storing, storing_first, storing_here, storing_next, storing_last}
+use Rattle.std.proofs.Common.{◌-◌, ◌≡◌, length}
+use Rattle.memory.specs.Laws.Plans.{Storing}
 use Rattle.memory.proofs.store_words.Given as goal
 
 abbrev pub invariant-loop-i : goal.invariant-loop-i

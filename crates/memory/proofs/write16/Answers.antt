@@ -1,5 +1,5 @@
 use Rattle.memory.specs.Bytes.{put_half}
-use Rattle.std.proofs.Common.{rules, arith, length-set}
+use Rattle.std.proofs.Common.{rules}
 use Rattle.memory.proofs.write16.Goals as goal
 
 pub returns : goal.returns

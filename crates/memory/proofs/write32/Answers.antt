@@ -1,5 +1,5 @@
 use Rattle.memory.specs.Bytes.{put_word}
-use Rattle.std.proofs.Common.{rules, arith, length-set}
+use Rattle.std.proofs.Common.{rules}
 use Rattle.memory.proofs.write32.Goals as goal
 
 pub returns : goal.returns

@@ -1,6 +1,5 @@
 use Rattle.bits.specs.Cases.{cases}
 use Rattle.misc.specs.Branches.{branch_exchange_of}
-use Rattle.std.proofs.Common.{rules}
 use Rattle.misc.proofs.branch_exchange.Goals as goal
 
 pub returns-then-op-eq3 : goal.returns-then-op-eq3

@@ -1,5 +1,4 @@
 use Rattle.misc.specs.Branches.{branch_link_exchange_of}
-use Rattle.std.proofs.Common.{rules}
 use Rattle.misc.proofs.branch_link_exchange.Goals as goal
 
 pub returns : goal.returns

@@ -1,5 +1,4 @@
 use Rattle.misc.specs.Stops.{bkpt_of}
-use Rattle.std.proofs.Common.{rules}
 use Rattle.misc.proofs.breakpoint.Goals as goal
 
 pub returns : goal.returns

@@ -1,5 +1,4 @@
 use Rattle.misc.specs.Stops.{clrex_of}
-use Rattle.std.proofs.Common.{rules}
 use Rattle.misc.proofs.clear_exclusive.Goals as goal
 
 pub returns : goal.returns

@@ -1,5 +1,4 @@
 use Rattle.misc.specs.Branches.{clz_of}
-use Rattle.std.proofs.Common.{rules}
 use Rattle.misc.proofs.clz.Goals as goal
 
 pub returns : goal.returns

@@ -1,5 +1,4 @@
 use Rattle.misc.specs.Stops.{coprocessor_of}
-use Rattle.std.proofs.Common.{rules}
 use Rattle.misc.proofs.coprocessor.Goals as goal
 
 pub returns : goal.returns

@@ -1,6 +1,5 @@
 use Rattle.bits.specs.Cases.{when◌then◌else◌}
 use Rattle.misc.specs.Stops.{coprocessor_of, coprocessor_move_of}
-use Rattle.std.proofs.Common.{rules}
 use Rattle.misc.proofs.coprocessor_register.Goals as goal
 
 pub returns-then-known : goal.returns-then-known

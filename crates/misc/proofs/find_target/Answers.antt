@@ -1,5 +1,4 @@
 use Rattle.misc.specs.Laws.Targets.{target_is}
-use Rattle.std.proofs.Common.{rules}
 use Rattle.misc.proofs.find_target.Goals as goal
 
 pub returns : goal.returns

@@ -1,5 +1,4 @@
 use Rattle.misc.specs.Stops.{swi_of}
-use Rattle.std.proofs.Common.{rules}
 use Rattle.misc.proofs.supervisor_call.Goals as goal
 
 pub returns : goal.returns

@@ -1,5 +1,4 @@
 use Rattle.bits.specs.Cases.{when◌then◌else◌}
-use Rattle.std.proofs.Common.{rules}
 use Rattle.moves.proofs.choose_record.Goals as goal
 
 pub returns-then-saved : goal.returns-then-saved

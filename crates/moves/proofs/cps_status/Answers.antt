@@ -1,6 +1,6 @@
 use Rattle.bits.specs.Cases.{when◌then◌else◌}
 use Rattle.moves.specs.Moves.{cps_status_of}
-use Rattle.std.proofs.Common.{rules, eq-eqb, ne_eqb}
+use Rattle.std.proofs.Common.{eq-eqb, ne_eqb}
 use Rattle.moves.proofs.cps_status.Goals as goal
 
 pub returns-then-op-eq1 : goal.returns-then-op-eq1

@@ -1,6 +1,5 @@
 use Rattle.bits.specs.Cases.{cases}
 use Rattle.moves.specs.Moves.{moves_of}
-use Rattle.std.proofs.Common.{rules}
 use Rattle.moves.proofs.move_status.Goals as goal
 
 pub returns-then-op-eq15 : goal.returns-then-op-eq15

@@ -1,5 +1,4 @@
 use Rattle.moves.specs.Moves.{mrs_of}
-use Rattle.std.proofs.Common.{rules}
 use Rattle.moves.proofs.mrs.Goals as goal
 
 pub returns : goal.returns

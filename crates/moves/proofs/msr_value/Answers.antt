@@ -1,6 +1,5 @@
 use Rattle.bits.specs.Cases.{cases}
 use Rattle.moves.specs.Moves.{msr_value_of}
-use Rattle.std.proofs.Common.{rules}
 use Rattle.moves.proofs.msr_value.Goals as goal
 
 pub returns-then-op-eq1 : goal.returns-then-op-eq1

@@ -1,5 +1,4 @@
 use Rattle.bits.specs.Cases.{when◌then◌else◌}
-use Rattle.std.proofs.Common.{rules}
 use Rattle.moves.proofs.set_mask.Goals as goal
 
 pub returns-then-named : goal.returns-then-named

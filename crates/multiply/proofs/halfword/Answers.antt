@@ -1,6 +1,6 @@
 use Rattle.bits.specs.Cases.{when◌then◌else◌, cases}
 use Rattle.multiply.specs.Multiply.{halfword_of}
-use Rattle.std.proofs.Common.{rules, ne_eqb}
+use Rattle.std.proofs.Common.{ne_eqb}
 use Rattle.multiply.proofs.halfword.Goals as goal
 
 pub returns-in-0 : goal.returns-in-0

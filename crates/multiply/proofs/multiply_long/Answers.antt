@@ -1,6 +1,5 @@
 use Rattle.bits.specs.Cases.{cases}
 use Rattle.multiply.specs.Multiply.{wide_of}
-use Rattle.std.proofs.Common.{rules}
 use Rattle.multiply.proofs.multiply_long.Goals as goal
 
 pub returns-then-op-eq1-2 : goal.returns-then-op-eq1-2

@@ -1,6 +1,6 @@
 use Rattle.bits.specs.Cases.{when◌then◌else◌}
 use Rattle.multiply.specs.Multiply.{short_of}
-use Rattle.std.proofs.Common.{rules, ne_eqb}
+use Rattle.std.proofs.Common.{ne_eqb}
 use Rattle.multiply.proofs.short.Goals as goal
 
 pub returns-then-op-eq1 : goal.returns-then-op-eq1

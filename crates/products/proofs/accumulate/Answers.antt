@@ -1,4 +1,4 @@
-use Rattle.std.proofs.Common.{pos, ◌+ℤ◌, to_z-of_z, rules}
+use Rattle.std.proofs.Common.{pos, ◌+ℤ◌, to_z-of_z}
 use Rattle.bits.specs.Laws.Wrap.{wrap_add}
 use Rattle.products.specs.Products.{pair_of}
 use Rattle.products.specs.Laws.Products.{long_wrapped}

@@ -1,5 +1,5 @@
-use Rattle.std.proofs.Common.{lit<, lit≤, rules}
-use Rattle.bits.specs.Laws.Range.{is_call, told, heard, read_within}
+use Rattle.std.proofs.Common.{lit<}
+use Rattle.bits.specs.Laws.Range.{is_call, told, heard}
 use Rattle.products.specs.Duals.{dual_of}
 use Rattle.products.proofs.dual.Goals as goal
 

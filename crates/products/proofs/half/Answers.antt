@@ -1,4 +1,4 @@
-use Rattle.std.proofs.Common.{lit<, rules}
+use Rattle.std.proofs.Common.{lit<}
 use Rattle.bits.specs.Cases.{when◌then◌else◌}
 use Rattle.bits.specs.Laws.Range.{told, heard}
 use Rattle.products.specs.Products.{half_of}

@@ -1,5 +1,4 @@
 use Rattle.products.specs.Laws.Products.{long_halves}
-use Rattle.std.proofs.Common.{rules}
 use Rattle.products.proofs.halve.Goals as goal
 
 pub returns : goal.returns

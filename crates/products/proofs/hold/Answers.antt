@@ -1,4 +1,4 @@
-use Rattle.std.proofs.Common.{to_z-of_z, rules}
+use Rattle.std.proofs.Common.{to_z-of_z}
 use Rattle.products.specs.Products.{held_of}
 use Rattle.products.proofs.hold.Goals as goal
 

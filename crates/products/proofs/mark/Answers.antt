@@ -1,4 +1,4 @@
-use Rattle.std.proofs.Common.{to_z-of_z, rules}
+use Rattle.std.proofs.Common.{to_z-of_z}
 use Rattle.bits.specs.Integers.{outside}
 use Rattle.products.specs.Products.{sticky_of}
 use Rattle.products.proofs.mark.Goals as goal

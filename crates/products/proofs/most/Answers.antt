@@ -1,5 +1,5 @@
-use Rattle.std.proofs.Common.{lit<, lit≤, rules}
-use Rattle.bits.specs.Laws.Range.{in_nat, heard, read_within}
+use Rattle.std.proofs.Common.{lit<}
+use Rattle.bits.specs.Laws.Range.{heard}
 use Rattle.products.specs.Laws.Duals.{most_law}
 use Rattle.products.proofs.most.Goals as goal
 

@@ -1,6 +1,6 @@
-use Rattle.std.proofs.Common.{lit<, lit≤, rules}
+use Rattle.std.proofs.Common.{lit<}
 use Rattle.products.specs.Products.{qadd_of}
-use Rattle.bits.specs.Laws.Range.{heard, read_within}
+use Rattle.bits.specs.Laws.Range.{heard}
 use Rattle.products.proofs.qadd.Goals as goal
 
 pub returns : goal.returns

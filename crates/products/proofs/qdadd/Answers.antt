@@ -1,5 +1,5 @@
-use Rattle.std.proofs.Common.{lit<, lit≤, rules}
-use Rattle.bits.specs.Laws.Range.{is_nat, is_mul, fit_mul, heard}
+use Rattle.std.proofs.Common.{lit<, lit≤}
+use Rattle.bits.specs.Laws.Range.{is_nat, is_mul, heard}
 use Rattle.products.specs.Products.{qdadd_of, doubled_of}
 use Rattle.products.proofs.qdadd.Goals as goal
 

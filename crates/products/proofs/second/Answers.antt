@@ -1,6 +1,5 @@
 use Rattle.bits.specs.Cases.{when◌then◌else◌}
 use Rattle.products.specs.Duals.{second_of}
-use Rattle.std.proofs.Common.{rules}
 use Rattle.products.proofs.second.Goals as goal
 
 pub returns-then-x : goal.returns-then-x

@@ -1,5 +1,5 @@
 use Rattle.std.proofs.Common.{lit<, rules}
-use Rattle.bits.specs.Laws.Range.{is_add, fit_add, heard}
+use Rattle.bits.specs.Laws.Range.{is_add, heard}
 use Rattle.products.specs.Duals.{smlad_of}
 use Rattle.products.proofs.smlad.Goals as goal
 

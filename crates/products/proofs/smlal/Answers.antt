@@ -1,4 +1,4 @@
-use Rattle.std.proofs.Common.{lit<, rules}
+use Rattle.std.proofs.Common.{lit<}
 use Rattle.products.specs.Products.{smlal_of}
 use Rattle.bits.specs.Laws.Range.{heard}
 use Rattle.products.proofs.smlal.Goals as goal

@@ -1,4 +1,4 @@
-use Rattle.std.proofs.Common.{lit<, rules}
+use Rattle.std.proofs.Common.{lit<}
 use Rattle.products.specs.Duals.{smlald_of}
 use Rattle.bits.specs.Laws.Range.{heard}
 use Rattle.products.proofs.smlald.Goals as goal

@@ -1,4 +1,4 @@
-use Rattle.std.proofs.Common.{lit<, rules}
+use Rattle.std.proofs.Common.{lit<}
 use Rattle.products.specs.Products.{smlalxy_of}
 use Rattle.bits.specs.Laws.Range.{heard}
 use Rattle.products.proofs.smlalxy.Goals as goal

@@ -1,5 +1,5 @@
-use Rattle.std.proofs.Common.{lit<, rules}
-use Rattle.bits.specs.Laws.Range.{is_add, fit_add, heard}
+use Rattle.std.proofs.Common.{lit<}
+use Rattle.bits.specs.Laws.Range.{is_add, heard}
 use Rattle.products.specs.Products.{smlaw_of}
 use Rattle.products.proofs.smlaw.Goals as goal
 

@@ -1,6 +1,5 @@
 use Rattle.products.specs.Duals.{smmla_of}
 use Rattle.products.specs.Laws.Duals.{base_is}
-use Rattle.std.proofs.Common.{rules}
 use Rattle.products.proofs.smmla.Goals as goal
 
 pub returns : goal.returns

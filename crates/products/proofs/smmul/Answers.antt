@@ -1,5 +1,4 @@
 use Rattle.products.specs.Duals.{smmul_of}
-use Rattle.std.proofs.Common.{rules}
 use Rattle.products.proofs.smmul.Goals as goal
 
 pub returns : goal.returns

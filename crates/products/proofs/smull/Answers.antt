@@ -1,4 +1,4 @@
-use Rattle.std.proofs.Common.{◌*ℤ◌, lit<, rules}
+use Rattle.std.proofs.Common.{◌*ℤ◌, lit<}
 use Rattle.bits.specs.Integers.{signed}
 use Rattle.products.specs.Products.{smull_of}
 use Rattle.products.specs.Laws.Products.{long_wrapped}

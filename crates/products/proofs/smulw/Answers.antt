@@ -1,5 +1,5 @@
-use Rattle.std.proofs.Common.{lit<, rules}
-use Rattle.bits.specs.Laws.Range.{is_mul, fit_mul, heard}
+use Rattle.std.proofs.Common.{lit<}
+use Rattle.bits.specs.Laws.Range.{is_mul, heard}
 use Rattle.products.specs.Products.{smulw_of}
 use Rattle.products.proofs.smulw.Goals as goal
 

@@ -1,6 +1,6 @@
-use Rattle.std.proofs.Common.{refl, lit<, rules}
+use Rattle.std.proofs.Common.{refl, lit<}
 use Rattle.bits.specs.Cases.{when◌then◌else◌}
-use Rattle.bits.specs.Laws.Range.{is_call, is_add, fit_add, is_sub, fit_sub, told}
+use Rattle.bits.specs.Laws.Range.{is_call, is_add, is_sub, told}
 use Rattle.products.specs.Products.{total_of}
 use Rattle.products.proofs.total.Goals as goal
 

@@ -1,5 +1,4 @@
 use Rattle.products.specs.Products.{umaal_of}
-use Rattle.std.proofs.Common.{rules}
 use Rattle.products.proofs.umaal.Goals as goal
 
 pub returns : goal.returns

@@ -1,4 +1,4 @@
-use Rattle.std.proofs.Common.{◌+◌, ◌*◌, pos, rules}
+use Rattle.std.proofs.Common.{◌+◌, ◌*◌, pos}
 use Rattle.products.specs.Products.{umlal_of, pair_of}
 use Rattle.products.specs.Laws.Products.{long_wrapped}
 use Rattle.products.proofs.umlal.Goals as goal

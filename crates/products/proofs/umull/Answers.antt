@@ -1,5 +1,4 @@
 use Rattle.products.specs.Products.{umull_of}
-use Rattle.std.proofs.Common.{rules}
 use Rattle.products.proofs.umull.Goals as goal
 
 pub returns : goal.returns

@@ -1,7 +1,7 @@
 use lib.ListN.{get_or-eq_default}
 use Rattle.bits.specs.Laws.Order.{apart_le}
 use Rattle.psr.specs.Status.{passed_of, conditions}
-use Rattle.std.proofs.Common.{rules, sym, true}
+use Rattle.std.proofs.Common.{sym, true}
 use Rattle.psr.proofs.check_condition.Goals as goal
 
 pub returns-in-0 : goal.returns-in-0

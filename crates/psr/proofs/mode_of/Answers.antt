@@ -1,6 +1,5 @@
 use Rattle.bits.specs.Cases.{when◌then◌else◌, cases}
 use Rattle.psr.specs.Status.{mode_of}
-use Rattle.std.proofs.Common.{rules}
 use Rattle.psr.proofs.mode_of.Goals as goal
 
 pub returns-in-17 : goal.returns-in-17

@@ -1,6 +1,5 @@
 use Rattle.bits.specs.Cases.{cases}
 use Rattle.psr.specs.Status.{packed_of}
-use Rattle.std.proofs.Common.{rules}
 use Rattle.psr.proofs.pack.Goals as goal
 
 pub returns-then-s-gt15 : goal.returns-then-s-gt15

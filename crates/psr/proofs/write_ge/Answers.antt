@@ -1,5 +1,4 @@
 use Rattle.bits.specs.Cases.{when◌then◌else◌}
-use Rattle.std.proofs.Common.{rules}
 use Rattle.psr.proofs.write_ge.Goals as goal
 
 pub returns-then-on : goal.returns-then-on

@@ -1,5 +1,4 @@
 use Rattle.psr.specs.Status.{status_of, written_of}
-use Rattle.std.proofs.Common.{rules}
 use Rattle.psr.proofs.write_masked.Goals as goal
 
 pub returns : goal.returns

@@ -1,5 +1,5 @@
 use Rattle.shifter.specs.Laws.Shifts.{by_immediate_some}
-use Rattle.std.proofs.Common.{rules, ◌∙◌, arith}
+use Rattle.std.proofs.Common.{◌∙◌, arith}
 use Rattle.shifter.proofs.by_immediate.Goals as goal
 
 pub returns-else-n-eq0 : goal.returns-else-n-eq0

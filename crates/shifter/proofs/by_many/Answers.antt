@@ -1,5 +1,5 @@
 use Rattle.shifter.specs.Laws.Shifts.{left_many, right_many, signed_many, turned_many}
-use Rattle.std.proofs.Common.{rules, false, ◌∙◌}
+use Rattle.std.proofs.Common.{false, ◌∙◌}
 use Rattle.shifter.proofs.by_many.Goals as goal
 
 pub returns-in-Lsl : goal.returns-in-Lsl

@@ -1,5 +1,5 @@
 use Rattle.shifter.specs.Laws.Shifts.{register_none, by_register_some, many_any}
-use Rattle.std.proofs.Common.{rules, ◌∙◌, arith}
+use Rattle.std.proofs.Common.{◌∙◌, arith}
 use Rattle.shifter.proofs.by_register.Goals as goal
 
 pub returns-then-n-eq0 : goal.returns-then-n-eq0

@@ -1,7 +1,7 @@
 use Rattle.bits.specs.Cases.{when◌then◌else◌}
 use Rattle.shifter.specs.Shifts.{by_immediate_of}
 use Rattle.shifter.specs.Laws.Shifts.{left_none, right_none, signed_none}
-use Rattle.std.proofs.Common.{rules, ◌∙◌}
+use Rattle.std.proofs.Common.{◌∙◌}
 use Rattle.shifter.proofs.by_zero.Goals as goal
 
 pub returns-in-Lsl : goal.returns-in-Lsl

@@ -1,7 +1,7 @@
 use Rattle.bits.specs.Cases.{cases}
 use Rattle.shifter.specs.Shifts.{immediate_of}
 use Rattle.shifter.specs.Laws.Shifts.{immediate_some}
-use Rattle.std.proofs.Common.{rules, ◌∙◌, arith}
+use Rattle.std.proofs.Common.{◌∙◌, arith}
 use Rattle.shifter.proofs.immediate.Goals as goal
 
 pub returns-then-turns-eq0 : goal.returns-then-turns-eq0

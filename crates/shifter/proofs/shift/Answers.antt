@@ -1,5 +1,4 @@
 use Rattle.shifter.specs.Laws.Shifts.{through_of}
-use Rattle.std.proofs.Common.{rules}
 use Rattle.shifter.proofs.shift.Goals as goal
 
 pub returns-in-Ror : goal.returns-in-Ror

@@ -1,5 +1,4 @@
 use Rattle.shifter.specs.Laws.Shifts.{left_is}
-use Rattle.std.proofs.Common.{rules}
 use Rattle.shifter.proofs.shift_left.Goals as goal
 
 pub returns : goal.returns

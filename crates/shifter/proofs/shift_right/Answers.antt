@@ -1,5 +1,4 @@
-use Rattle.shifter.specs.Laws.Shifts.{right_lt, right_is}
-use Rattle.std.proofs.Common.{rules}
+use Rattle.shifter.specs.Laws.Shifts.{right_is}
 use Rattle.shifter.proofs.shift_right.Goals as goal
 
 pub returns : goal.returns

@@ -1,5 +1,5 @@
 use Rattle.shifter.specs.Laws.Shifts.{signed_right_low, signed_right_high}
-use Rattle.std.proofs.Common.{rules, ◌∙◌}
+use Rattle.std.proofs.Common.{◌∙◌}
 use Rattle.shifter.proofs.shift_right_signed.Goals as goal
 
 pub returns-then-x-lt2147483648 : goal.returns-then-x-lt2147483648

@@ -1,6 +1,5 @@
 use Rattle.bits.specs.Cases.{when◌then◌else◌, cases}
 use Rattle.shifter.specs.Shifts.{type_of}
-use Rattle.std.proofs.Common.{rules}
 use Rattle.shifter.proofs.shift_type.Goals as goal
 
 pub returns-in-0 : goal.returns-in-0

@@ -1,6 +1,5 @@
 use Rattle.bits.specs.Cases.{cases}
 use Rattle.state.specs.State.{ge_byte_of}
-use Rattle.std.proofs.Common.{rules}
 use Rattle.state.proofs.narrow_ge.Goals as goal
 
 pub returns-then-ge-le255 : goal.returns-then-ge-le255

@@ -1,5 +1,4 @@
 use Rattle.state.specs.State.{state_of}
-use Rattle.std.proofs.Common.{rules}
 use Rattle.state.proofs.read_state.Goals as goal
 
 pub returns : goal.returns

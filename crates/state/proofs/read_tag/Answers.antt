@@ -1,6 +1,6 @@
 use Rattle.bits.specs.Cases.{when◌then◌else◌}
 use Rattle.state.specs.State.{tag_of}
-use Rattle.std.proofs.Common.{rules, sym, ◌∙◌, eq-eqb, ne_eqb}
+use Rattle.std.proofs.Common.{sym, ◌∙◌, eq-eqb, ne_eqb}
 use Rattle.state.proofs.read_tag.Goals as goal
 
 pub returns-then-present-eq0 : goal.returns-then-present-eq0

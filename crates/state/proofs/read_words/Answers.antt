@@ -1,5 +1,4 @@
-use Rattle.state.specs.Laws.Words.{Reading, reading_first, reading_next, reading_last}
-use Rattle.std.proofs.Common.{rules, ◌-◌, length}
+use Rattle.state.specs.Laws.Words.{reading_first, reading_next, reading_last}
 use Rattle.state.proofs.read_words.Goals as goal
 
 pub loop-i-init : goal.loop-i-init

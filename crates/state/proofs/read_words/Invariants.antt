@@ -1,5 +1,5 @@
 use Rattle.std.proofs.Common.{◌-◌, length}
-use Rattle.state.specs.Laws.Words.{Reading, reading_first, reading_next, reading_last}
+use Rattle.state.specs.Laws.Words.{Reading}
 use Rattle.state.proofs.read_words.Given as goal
 
 abbrev pub invariant-loop-i : goal.invariant-loop-i

@@ -1,5 +1,4 @@
-use Rattle.state.specs.Laws.Words.{Writing, writing_first, writing_next, writing_last}
-use Rattle.std.proofs.Common.{rules, ◌-◌, length}
+use Rattle.state.specs.Laws.Words.{writing_first, writing_next, writing_last}
 use Rattle.state.proofs.write_words.Goals as goal
 
 pub loop-i-init : goal.loop-i-init

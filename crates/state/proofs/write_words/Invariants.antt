@@ -1,5 +1,5 @@
 use Rattle.std.proofs.Common.{◌-◌, length}
-use Rattle.state.specs.Laws.Words.{Writing, writing_first, writing_next, writing_last}
+use Rattle.state.specs.Laws.Words.{Writing}
 use Rattle.state.proofs.write_words.Given as goal
 
 abbrev pub invariant-loop-i : goal.invariant-loop-i

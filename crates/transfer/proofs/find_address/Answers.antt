@@ -1,6 +1,5 @@
 use Rattle.bits.specs.Cases.{cases}
 use Rattle.transfer.specs.Transfers.{address_of}
-use Rattle.std.proofs.Common.{rules}
 use Rattle.transfer.proofs.find_address.Goals as goal
 
 pub returns-then-op-eq1 : goal.returns-then-op-eq1

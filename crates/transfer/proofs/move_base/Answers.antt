@@ -1,6 +1,5 @@
 use Rattle.bits.specs.Cases.{cases}
 use Rattle.transfer.specs.Transfers.{moved_of}
-use Rattle.std.proofs.Common.{rules}
 use Rattle.transfer.proofs.move_base.Goals as goal
 
 pub returns-then-op-eq1 : goal.returns-then-op-eq1

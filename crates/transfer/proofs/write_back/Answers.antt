@@ -1,6 +1,5 @@
 use Rattle.bits.specs.Cases.{when◌then◌else◌}
 use Rattle.transfer.specs.Transfers.{based_of}
-use Rattle.std.proofs.Common.{rules}
 use Rattle.transfer.proofs.write_back.Goals as goal
 
 pub returns-then-on : goal.returns-then-on
