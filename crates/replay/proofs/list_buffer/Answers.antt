@@ -1,4 +1,4 @@
-use Rattle.std.proofs.Common.{ℕ, sym, rules}
+use Rattle.std.proofs.Common.{ℕ, sym}
 use lib.ListN.{length-replicate}
 use Rattle.replay.proofs.list_buffer.Goals as goal
 

@@ -1,4 +1,4 @@
-use Rattle.std.proofs.Common.{sym, ◌∙◌, rules}
+use Rattle.std.proofs.Common.{sym, ◌∙◌}
 use Rattle.listing.specs.Verdicts.{all_same}
 use Rattle.listing.specs.Laws.Verdicts.{both_same, second_not, first_not}
 use Rattle.listing.proofs.judge.first_of.Goals as goal

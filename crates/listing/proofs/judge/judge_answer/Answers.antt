@@ -1,6 +1,5 @@
 use Rattle.bits.specs.Cases.{cases}
 use Rattle.listing.specs.Verdicts.{same_answer}
-use Rattle.std.proofs.Common.{rules}
 use Rattle.listing.proofs.judge.judge_answer.Goals as goal
 
 pub returns-then-count-due : goal.returns-then-count-due

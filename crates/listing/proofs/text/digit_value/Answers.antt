@@ -1,4 +1,3 @@
-use Rattle.std.proofs.Common.{rules}
 use Rattle.bits.specs.Cases.{cases}
 use Rattle.listing.specs.Digits.{digit_of}
 use Rattle.listing.proofs.text.digit_value.Goals as goal

@@ -1,4 +1,4 @@
-use Rattle.std.proofs.Common.{◌-◌, ◌≤◌, length, rules}
+use Rattle.std.proofs.Common.{◌-◌, ◌≤◌, length}
 use Rattle.listing.proofs.text.read_number.Given as goal
 
 abbrev pub invariant-loop-at : goal.invariant-loop-at

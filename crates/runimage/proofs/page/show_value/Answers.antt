@@ -1,6 +1,5 @@
 use Rattle.bits.specs.Cases.{cases}
 use Rattle.runimage.specs.Image.{shown_from}
-use Rattle.std.proofs.Common.{rules}
 use Rattle.runimage.proofs.page.show_value.Goals as goal
 
 pub returns-then-second : goal.returns-then-second

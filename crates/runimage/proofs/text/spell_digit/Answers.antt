@@ -1,6 +1,5 @@
 use Rattle.bits.specs.Cases.{cases}
 use Rattle.runimage.specs.Text.{glyph_of}
-use Rattle.std.proofs.Common.{rules}
 use Rattle.runimage.proofs.text.spell_digit.Goals as goal
 
 pub returns-then-d-lt10 : goal.returns-then-d-lt10

@@ -1,5 +1,4 @@
 use Rattle.runimage.specs.Text.{spaced_of}
-use Rattle.std.proofs.Common.{rules}
 use Rattle.runimage.proofs.text.spell_word.Goals as goal
 
 pub returns : goal.returns
