@@ -1,5 +1,5 @@
 // Reading a line of the list: each function reads from a place on and answers the place after it. What cannot be read leads to the end of the line, where nothing can be read.
-ghost use Rattle.std.specs.Prelude.{◌≡◌, ◌<◌, ◌≤◌, length};
+ghost use Rattle.std.specs.Prelude.{◌≡◌, ◌≢◌, ℕ, ◌<◌, ◌≤◌, length, slice_index};
 ghost use Rattle.listing.specs.Digits.{digit_of};
 
 #[derive(Clone, Copy)]
@@ -26,7 +26,9 @@ pub struct Line {
 // The first byte b from a place on, or the end.
 pub fn find(text: &[u8], from: usize, b: u8) -> usize
     requires { from ≤ length text.now }
-    ensures { (from ≤ result) × (result ≤ length text.now) }
+    ensures bounds { (from ≤ result) × (result ≤ length text.now) }
+    ensures before { (k : ℕ) → from ≤ k → k < result → slice_index text.now k ≢ b }
+    ensures found { result < length text.now → slice_index text.now result ≡ b }
 {
     let mut at = from;
     while at < text.len() && text[at] != b {
