@@ -78,9 +78,9 @@ pub record Defined (regs : List ℕ) (op : ℕ) (s : Seen) (l : List ℕ) : Type
   pub exclusive : effect_of family.Exclusive regs op s l ≡ exclusive_of regs op (is_tagged s.tag) (tag_address s.tag) l
   -- CLREX
   pub clear_exclusive : effect_of family.ClearExclusive regs op s l ≡ beside (clrex_of regs) l
-  -- MRS MSR, by movesOf on the whole machine; D8
+  -- MRS MSR, by moves_of on the whole machine; D8
   pub status_move : effect_of family.StatusMove regs op s l ≡ (moves, regs, l)
-  -- CPS SETEND, by movesOf; D2
+  -- CPS SETEND, by moves_of; D2
   pub change_state : effect_of family.ChangeState regs op s l ≡ (moves, regs, l)
   -- PLD: a hint
   pub preload : effect_of family.Preload regs op s l ≡ beside (done_of regs) l
