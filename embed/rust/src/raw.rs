@@ -3,7 +3,7 @@
 //! With a state of other than 216 bytes, or an answer of other than 12 (for a run 16),
 //! a call on slices returns 0 and writes nothing; else it returns 1.
 
-// Nothing checks these against crates/exports: keep the two side by side.
+// Nothing checks these against crates/exports_c: keep the two side by side.
 unsafe extern "C" {
     fn tholungdek_step(
         state: *mut u8,

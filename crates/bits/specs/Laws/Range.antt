@@ -86,7 +86,7 @@ pub shr_fits : (z : ℤ) (d : ℕ) → FitsSigned w64 z → FitsSigned w64 (shr_
 shr_fits z d h = record { sfits = lt_of_le_of_lt (mag_shr z d) h.sfits }
 
 -- Signed code, mirrored: t is what the logic has for a signed expression, y the integer meant, from -m to m.
--- A node's `fit-` answers its need, its `is-` gives its value.
+-- A node's `fit_` law answers its goal, its `is_` law gives its value.
 pub record Is (m : ℕ) (t y : ℤ) : Type 0 where
   pub same : t ≡ y
   pub size : Within m y
