@@ -23,7 +23,7 @@ pub struct Line {
     pub next: usize,
 }
 
-// The first byte b from a place on, or the end.
+// Where the byte b first stands from a place on, or the end.
 pub fn find(text: &[u8], from: usize, b: u8) -> usize
     requires { from ≤ length text.now }
     ensures bounds { (from ≤ result) × (result ≤ length text.now) }
