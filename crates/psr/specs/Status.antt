@@ -1,12 +1,13 @@
 -- The program status registers (DDI 0100I, A2.5): the packed word, the modes, the conditions and MSR's masked write.
-use Rattle.std.specs.Prelude.{◌≡◌, Bool, true, false, not, ◌&&◌, ◌||◌, List, [], ◌∷◌, ℕ, ◌+◌, ◌*◌, ◌^◌, get_or, ◌==◌}
+use Rattle.std.specs.Prelude.{◌≡◌, Bool, true, false, not, ◌&&◌, ◌||◌, List, [], ◌∷◌, ℕ, ◌+◌, ◌*◌, ◌^◌, get_or, ◌==◌, Result, Ok, Err}
+use Rattle.std.specs.Result.{result_unwrap_or}
 use Rattle.std.specs.Bool.{beq}
 use Rattle.bits.specs.Cases.{when◌then◌else◌, ◌<?◌}
 use Rattle.bits.specs.Fields.{◌⟨◌⟩, ◌⟨◌‥◌⟩, bit_of}
 use Rattle.psr.specs.declared.Mode.{Mode}
 use Rattle.psr.specs.declared.Mode.TheVariants.{User, Fiq, Irq, Supervisor, Abort, Undefined, System}
 use Rattle.psr.specs.declared.Status.{Status}
-use Rattle.psr.specs.declared.Packed.{Packed}
+use Rattle.psr.specs.declared.GeTooLarge.{GeTooLarge}
 
 -- A2.2, Table A2-1, with A2.5.7: the mode bits
 abbrev pub mode_number : Mode → ℕ
@@ -63,14 +64,16 @@ status_of w =
       mode = mode_of (w ⟨ 4 ‥ 0 ⟩);
     }
 
--- document 01, section 2: packing answers 0, or 8 with the word 0 when GE exceeds 15
-unfoldable pub packed_of : Status → Packed
-packed_of s =
-    when 15 <? s.ge then record { answer = 8; word = 0 }
-    else record { answer = 0; word = word_of s }
+-- document 01, section 2: packing gives the word, or answers 8 when GE exceeds 15
+unfoldable pub packed_of : Status → Result ℕ GeTooLarge
+packed_of s = when 15 <? s.ge then Err (record {}) else Ok (word_of s)
+
+-- the word, and 0 with answer 8
+abbrev pub packed_word_of : Status → ℕ
+packed_word_of s = result_unwrap_or (packed_of s) 0
 
 -- the promises of the two public calls
-abbrev pub Packs : Status → Packed → Type 0
+abbrev pub Packs : Status → Result ℕ GeTooLarge → Type 0
 Packs s r = r ≡ packed_of s
 
 abbrev pub Unpacks : ℕ → Status → Type 0

@@ -1,13 +1,12 @@
 // Program status records: modes, the packed word, conditions, the masked write.
-#![tactic(auto)]
+#![tactic(auto, using(bits::specs::Cases::cases))]
 
 ghost use Rattle.std.specs.Prelude.{◌≡◌, ◌+◌, ◌*◌, ◌≤◌, ◌<◌};
 ghost use Rattle.bits.specs.Fields.{bit_of};
 ghost use Rattle.psr.specs.Status.{mode_number, mode_of, word_of, Packs, Unpacks, passed_of, privileged, written_of};
-ghost use Rattle.psr.specs.With.{with_mode};
 ghost use Rattle.psr.specs.Laws.Parts.{flags_from, ge_from, extension_from, control_from};
 
-#[derive(Clone, Copy)]
+#[derive(Clone, Copy, PartialEq, Eq)]
 pub enum Mode {
     User,
     Fiq,
@@ -34,27 +33,28 @@ pub struct Status {
     pub mode: Mode,
 }
 
-// The answer's number and, with answer 0, the word.
-#[derive(Clone, Copy)]
-pub struct Packed {
-    pub answer: u32,
-    pub word: u32,
-}
+// A GE that exceeds 15 has no room in a word: answer 8.
+#[derive(Clone, Copy, PartialEq, Eq)]
+pub struct GeTooLarge;
 
-pub fn mode_number(m: Mode) -> u32
-    ensures { (result ≡ mode_number m) × (result < 32) }
-{
-    match m {
-        Mode::User => 16,
-        Mode::Fiq => 17,
-        Mode::Irq => 18,
-        Mode::Supervisor => 19,
-        Mode::Abort => 23,
-        Mode::Undefined => 27,
-        Mode::System => 31,
+impl From<Mode> for u32 {
+    ghost from_gives = { λ m number. (number ≡ mode_number m) × (number < 32) };
+
+    fn from(m: Mode) -> u32 {
+        match m {
+            Mode::User => 16,
+            Mode::Fiq => 17,
+            Mode::Irq => 18,
+            Mode::Supervisor => 19,
+            Mode::Abort => 23,
+            Mode::Undefined => 27,
+            Mode::System => 31,
+        }
     }
 }
 
+// Not a `From`, since it is many to one: a number that is no mode's reads as User.
+#[tactic(auto, using(bits::specs::Cases::cases), unfolding(crate::specs::Status::mode_of))]
 pub fn mode_of(number: u32) -> Mode
     ensures { result ≡ mode_of number }
 {
@@ -72,15 +72,7 @@ pub fn mode_of(number: u32) -> Mode
 pub fn is_privileged(m: Mode) -> bool
     ensures { result ≡ privileged m }
 {
-    match m {
-        Mode::User => false,
-        Mode::Fiq => true,
-        Mode::Irq => true,
-        Mode::Supervisor => true,
-        Mode::Abort => true,
-        Mode::Undefined => true,
-        Mode::System => true,
-    }
+    m != Mode::User
 }
 
 // Five bits side by side, the first on top.
@@ -95,29 +87,28 @@ fn join_five(a: bool, b: bool, c: bool, d: bool, e: bool) -> u32
 }
 
 // The word of a record whose GE fits.
+#[tactic(auto, using(bits::specs::Cases::cases), unfolding(crate::specs::Status::word_of))]
 pub fn word_of(s: Status) -> u32
     requires { s.ge ≤ 15 }
     ensures { result ≡ word_of s }
 {
-    let mode = s.mode;
     let high = join_five(s.n, s.z, s.c, s.v, s.q);
     let low = join_five(s.e, s.a, s.i, s.f, s.t);
-    high * 134217728 + (s.ge as u32) * 65536 + low * 32 + mode_number(mode)
+    high * 134217728 + u32::from(s.ge) * 65536 + low * 32 + u32::from(s.mode)
 }
 
-pub fn pack(s: Status) -> Packed
+#[tactic(auto, using(bits::specs::Cases::cases), unfolding(crate::specs::Status::packed_of))]
+pub fn pack(s: Status) -> Result<u32, GeTooLarge>
     ensures { Packs s result }
 {
     if 15 < s.ge {
-        Packed { answer: 8, word: 0 }
+        Err(GeTooLarge)
     } else {
-        Packed {
-            answer: 0,
-            word: word_of(s),
-        }
+        Ok(word_of(s))
     }
 }
 
+#[tactic(auto, using(bits::specs::Cases::cases), unfolding(crate::specs::Status::status_of))]
 pub fn unpack(w: u32) -> Status
     ensures { Unpacks w result }
 {
@@ -137,27 +128,8 @@ pub fn unpack(w: u32) -> Status
     }
 }
 
-// A field that is an enum is not stored to, so the record is made anew.
-pub fn with_mode(s: Status, mode: Mode) -> Status
-    ensures { result ≡ with_mode s mode }
-{
-    Status {
-        n: s.n,
-        z: s.z,
-        c: s.c,
-        v: s.v,
-        q: s.q,
-        ge: s.ge,
-        e: s.e,
-        a: s.a,
-        i: s.i,
-        f: s.f,
-        t: s.t,
-        mode,
-    }
-}
-
 // Whether an instruction with this condition field is executed.
+#[tactic(auto, using(bits::specs::Cases::cases), unfolding(crate::specs::Status::passed_of, crate::specs::Status::conditions))]
 pub fn check_condition(cond: u32, n: bool, z: bool, c: bool, v: bool) -> bool
     ensures { result ≡ passed_of cond n z c v }
 {
@@ -185,13 +157,14 @@ fn write_flags(s: Status, w: Status, on: bool) -> Status
     ensures { result ≡ flags_from s w on }
 {
     if on {
-        let mut out = s;
-        out.n = w.n;
-        out.z = w.z;
-        out.c = w.c;
-        out.v = w.v;
-        out.q = w.q;
-        out
+        Status {
+            n: w.n,
+            z: w.z,
+            c: w.c,
+            v: w.v,
+            q: w.q,
+            ..s
+        }
     } else {
         s
     }
@@ -200,23 +173,18 @@ fn write_flags(s: Status, w: Status, on: bool) -> Status
 fn write_ge(s: Status, w: Status, on: bool) -> Status
     ensures { result ≡ ge_from s w on }
 {
-    if on {
-        let mut out = s;
-        out.ge = w.ge;
-        out
-    } else {
-        s
-    }
+    if on { Status { ge: w.ge, ..s } } else { s }
 }
 
 fn write_extension(s: Status, w: Status, on: bool) -> Status
     ensures { result ≡ extension_from s w on }
 {
     if on {
-        let mut out = s;
-        out.e = w.e;
-        out.a = w.a;
-        out
+        Status {
+            e: w.e,
+            a: w.a,
+            ..s
+        }
     } else {
         s
     }
@@ -226,17 +194,19 @@ fn write_control(s: Status, w: Status, on: bool) -> Status
     ensures { result ≡ control_from s w on }
 {
     if on {
-        let mode = w.mode;
-        let mut out = with_mode(s, mode);
-        out.i = w.i;
-        out.f = w.f;
-        out
+        Status {
+            i: w.i,
+            f: w.f,
+            mode: w.mode,
+            ..s
+        }
     } else {
         s
     }
 }
 
 // MSR's write of a value into a record, by value.
+#[tactic(auto, using(bits::specs::Cases::cases), unfolding(crate::specs::Status::status_of, crate::specs::Status::written_of))]
 pub fn write_masked(s: Status, value: u32, mask: u32, privileged: bool) -> Status
     ensures { result ≡ written_of s value mask privileged }
 {
