@@ -8,7 +8,7 @@ use Rattle.cpu.specs.declared.Answer.TheVariants.{Done, Supervisor, Undefined, B
 use Rattle.cpu.specs.declared.Report.{Report}
 use Rattle.cpu.specs.declared.Machine.{Machine}
 
-abbrev report : ℕ → ℕ → ℕ → Report
+abbrev pub report : ℕ → ℕ → ℕ → Report
 report number first second = record { number = number; first = first; second = second }
 
 abbrev pub reported : Answer → Report

@@ -1,8 +1,7 @@
 -- A machine with one field replaced: the only definitions that list the fields.
-use Rattle.std.specs.Prelude.{List, ℕ}
+use Rattle.std.specs.Prelude.{List, ℕ, Option}
 use Rattle.psr.specs.declared.Status.{Status}
 use Rattle.cpu.specs.declared.Machine.{Machine}
-use Rattle.cpu.specs.declared.Tag.{Tag}
 
 abbrev pub with_regs : Machine → List ℕ → Machine
 with_regs m x = record { regs = x; cpsr = m.cpsr; spsr = m.spsr; banked = m.banked; saved = m.saved; fiq = m.fiq; user = m.user; tag = m.tag }
@@ -25,5 +24,5 @@ with_fiq m x = record { regs = m.regs; cpsr = m.cpsr; spsr = m.spsr; banked = m.
 abbrev pub with_user : Machine → List ℕ → Machine
 with_user m x = record { regs = m.regs; cpsr = m.cpsr; spsr = m.spsr; banked = m.banked; saved = m.saved; fiq = m.fiq; user = x; tag = m.tag }
 
-abbrev pub with_tag : Machine → Tag → Machine
+abbrev pub with_tag : Machine → Option ℕ → Machine
 with_tag m x = record { regs = m.regs; cpsr = m.cpsr; spsr = m.spsr; banked = m.banked; saved = m.saved; fiq = m.fiq; user = m.user; tag = x }
