@@ -1,9 +1,8 @@
 // Bank switching: mode changes, returns, and the User bank, on the machine by value.
-#![tactic(auto)]
+#![tactic(auto, using(bits::specs::Cases::cases))]
 
 ghost use Rattle.std.specs.Prelude.{◌≡◌, ◌+◌, ◌-◌, ◌*◌, ◌<◌, ◌≤◌, get_or, set, ◌==◌};
 ghost use Rattle.bits.specs.Cases.{when◌then◌else◌};
-ghost use Rattle.psr.specs.Status.{mode_number};
 ghost use Rattle.cpu.specs.With.{with_regs, with_user, with_banked};
 ghost use Rattle.banks.specs.Banks.{bank_of, is_fiq, has_saved, r8to12, with_r8to12, entered_of, switched_of, restored_of, onward, branched_to, returned_of, exchanged_to, user_reg_of, with_user_reg};
 ghost use Rattle.banks.specs.Laws.Parts.{saved_at, taken_at};
@@ -28,32 +27,7 @@ pub fn bank_of(mode: Mode) -> usize
 pub fn is_fiq(mode: Mode) -> bool
     ensures { result ≡ is_fiq mode }
 {
-    match mode {
-        Mode::Fiq => true,
-        Mode::Irq => false,
-        Mode::Supervisor => false,
-        Mode::Abort => false,
-        Mode::Undefined => false,
-        Mode::User => false,
-        Mode::System => false,
-    }
-}
-
-// The bank of the current mode.
-fn current_bank(m: Machine) -> usize
-    ensures { (result ≡ bank_of m.cpsr.mode) × (result ≤ 5) }
-{
-    let s = m.cpsr;
-    let mode = s.mode;
-    bank_of(mode)
-}
-
-fn current_fiq(m: Machine) -> bool
-    ensures { result ≡ is_fiq m.cpsr.mode }
-{
-    let s = m.cpsr;
-    let mode = s.mode;
-    is_fiq(mode)
+    mode == Mode::Fiq
 }
 
 fn keep_pair(m: Machine, b: usize) -> [u32; 12]
@@ -66,14 +40,14 @@ fn keep_pair(m: Machine, b: usize) -> [u32; 12]
     out
 }
 
+#[tactic(auto, using(bits::specs::Cases::cases), unfolding(crate::specs::Laws::Parts::saved_at))]
 fn keep_saved(m: Machine, b: usize) -> [Status; 5]
     requires { b ≤ 5 }
     ensures { result ≡ saved_at m b }
 {
     let mut out = m.saved;
     if b < 5 {
-        let s = m.spsr;
-        out[b] = s;
+        out[b] = m.spsr;
         out
     } else {
         out
@@ -127,6 +101,7 @@ fn take_five(regs: [u32; 16], from: bool, to: bool, fiq: [u32; 5], user: [u32; 5
     }
 }
 
+#[tactic(auto, using(bits::specs::Cases::cases), unfolding(crate::specs::Laws::Parts::taken_at))]
 fn take_saved(m: Machine, saved: [Status; 5], b: usize) -> Status
     requires { b ≤ 5 }
     ensures { result ≡ taken_at m.spsr saved b }
@@ -134,75 +109,65 @@ fn take_saved(m: Machine, saved: [Status; 5], b: usize) -> Status
     if b < 5 { saved[b] } else { m.spsr }
 }
 
-fn is_same(a: Mode, b: Mode) -> bool
-    ensures { result ≡ (mode_number a == mode_number b) }
-{
-    psr::mode_number(a) == psr::mode_number(b)
-}
-
 // Into another mode than the current one.
+#[tactic(auto, using(bits::specs::Cases::cases), unfolding(crate::specs::Banks::entered_of, crate::specs::Banks::saved_kept, crate::specs::Banks::fiq_kept, crate::specs::Banks::user_kept, crate::specs::Banks::regs_taken, crate::specs::Banks::spsr_taken, crate::specs::Laws::Parts::saved_at, crate::specs::Laws::Parts::taken_at))]
 fn enter(m: Machine, new: Mode) -> Machine
     ensures { result ≡ entered_of m new }
 {
-    let old = current_bank(m);
+    let old = bank_of(m.cpsr.mode);
     let bank = bank_of(new);
-    let from = current_fiq(m);
+    let from = is_fiq(m.cpsr.mode);
     let to = is_fiq(new);
-    let regs = m.regs;
-    let fiq_before = m.fiq;
-    let user_before = m.user;
-    let pairs = keep_pair(m, old);
+    let banked = keep_pair(m, old);
     let saved = keep_saved(m, old);
-    let fiq = keep_five(from, regs, fiq_before);
-    let user = keep_five(!from & to, regs, user_before);
-    let spsr = take_saved(m, saved, bank);
-    let taken = take_five(take_pair(regs, pairs, bank), from, to, fiq, user);
-    let cpsr = psr::with_mode(m.cpsr, new);
-    let mut out = m;
-    out.regs = taken;
-    out.cpsr = cpsr;
-    out.spsr = spsr;
-    out.banked = pairs;
-    out.saved = saved;
-    out.fiq = fiq;
-    out.user = user;
-    out
+    let fiq = keep_five(from, m.regs, m.fiq);
+    let user = keep_five(!from & to, m.regs, m.user);
+    Machine {
+        regs: take_five(take_pair(m.regs, banked, bank), from, to, fiq, user),
+        cpsr: Status {
+            mode: new,
+            ..m.cpsr
+        },
+        spsr: take_saved(m, saved, bank),
+        banked,
+        saved,
+        fiq,
+        user,
+        ..m
+    }
 }
 
+#[tactic(auto, using(bits::specs::Cases::cases), unfolding(crate::specs::Banks::switched_of))]
 pub fn switch_mode(m: Machine, new: Mode) -> Machine
     ensures { result ≡ switched_of m new }
 {
-    let s = m.cpsr;
-    let old = s.mode;
-    let same = is_same(old, new);
-    if same { m } else { enter(m, new) }
+    if m.cpsr.mode == new { m } else { enter(m, new) }
 }
 
+#[tactic(auto, using(bits::specs::Cases::cases), unfolding(crate::specs::Banks::restored_of))]
 pub fn restore(m: Machine) -> Machine
     ensures { result ≡ restored_of m }
 {
-    let s = m.spsr;
-    let mode = s.mode;
-    let mut out = switch_mode(m, mode);
-    out.cpsr = s;
-    out
+    Machine {
+        cpsr: m.spsr,
+        ..switch_mode(m, m.spsr.mode)
+    }
 }
 
 pub fn move_on(m: Machine) -> Machine
     ensures { result ≡ onward m }
 {
-    let next = bits::wrapping_sub(m.regs[15], 4);
     let mut out = m;
-    out.regs[15] = next;
+    out.regs[15] = m.regs[15].wrapping_sub(4);
     out
 }
 
+#[tactic(auto, using(bits::specs::Cases::cases), unfolding(crate::specs::Banks::branched_to))]
 pub fn branch_to(m: Machine, to: u32) -> Machine
     ensures { result ≡ branched_to m to }
 {
-    let thumb = m.cpsr.t;
     let mut out = m;
-    if thumb {
+    if m.cpsr.t {
         out.regs[15] = to / 2 * 2;
         out
     } else {
@@ -212,28 +177,30 @@ pub fn branch_to(m: Machine, to: u32) -> Machine
 }
 
 // A data operation with S into r15.
+#[tactic(auto, using(bits::specs::Cases::cases), unfolding(crate::specs::Banks::returned_of))]
 pub fn return_to(m: Machine, to: u32) -> Machine
     ensures { result ≡ returned_of m to }
 {
     branch_to(restore(m), to)
 }
 
+#[tactic(auto, using(bits::specs::Cases::cases), unfolding(crate::specs::Banks::exchanged_to))]
 pub fn exchange_to(m: Machine, to: u32) -> Machine
     ensures { result ≡ exchanged_to m to }
 {
-    let t = to % 2 == 1;
     let mut out = m;
-    out.cpsr.t = t;
+    out.cpsr.t = to % 2 == 1;
     branch_to(out, to)
 }
 
-// Whether the current mode has banked r13 and r14 and a saved record of its own.
-fn has_saved(m: Machine) -> bool
-    ensures { result ≡ has_saved m.cpsr.mode }
+// Whether a mode has banked r13 and r14 and a saved record of its own.
+fn has_saved(mode: Mode) -> bool
+    ensures { result ≡ has_saved mode }
 {
-    current_bank(m) < 5
+    bank_of(mode) < 5
 }
 
+#[tactic(auto, using(bits::specs::Cases::cases), unfolding(crate::specs::Banks::user_reg_of))]
 pub fn read_user_reg(m: Machine, r: u32) -> u32
     requires { r < 16 }
     ensures { result ≡ user_reg_of m r }
@@ -242,13 +209,19 @@ pub fn read_user_reg(m: Machine, r: u32) -> u32
     if r < 8 {
         m.regs[i]
     } else if r < 13 {
-        let fiq = current_fiq(m);
-        if fiq { m.user[i - 8] } else { m.regs[i] }
+        if is_fiq(m.cpsr.mode) {
+            m.user[i - 8]
+        } else {
+            m.regs[i]
+        }
     } else if r < 15 {
-        let banked = has_saved(m);
-        if banked { m.banked[i - 3] } else { m.regs[i] }
+        if has_saved(m.cpsr.mode) {
+            m.banked[i - 3]
+        } else {
+            m.regs[i]
+        }
     } else {
-        bits::wrapping_add(m.regs[15], 4)
+        m.regs[15].wrapping_add(4)
     }
 }
 
@@ -279,6 +252,7 @@ fn put_banked(m: Machine, r: u32, value: u32) -> Machine
     out
 }
 
+#[tactic(auto, using(bits::specs::Cases::cases), unfolding(crate::specs::Banks::with_user_reg))]
 pub fn write_user_reg(m: Machine, r: u32, value: u32) -> Machine
     requires { r < 16 }
     ensures { result ≡ with_user_reg m r value }
@@ -286,15 +260,13 @@ pub fn write_user_reg(m: Machine, r: u32, value: u32) -> Machine
     if r < 8 {
         put_reg(m, r, value)
     } else if r < 13 {
-        let fiq = current_fiq(m);
-        if fiq {
+        if is_fiq(m.cpsr.mode) {
             put_high(m, r, value)
         } else {
             put_reg(m, r, value)
         }
     } else if r < 15 {
-        let banked = has_saved(m);
-        if banked {
+        if has_saved(m.cpsr.mode) {
             put_banked(m, r, value)
         } else {
             put_reg(m, r, value)

@@ -3,7 +3,7 @@ use Rattle.std.specs.Prelude.{true, false, ◌&&◌, ℕ, get_or, set, ◌==◌}
 use Rattle.bits.specs.Cases.{when◌then◌else◌}
 use Rattle.bits.specs.Fields.{◌⟨◌⟩, ◌⟨◌‥◌⟩}
 use Rattle.psr.specs.declared.Status.{Status}
-use Rattle.psr.specs.Status.{mode_of, packed_of, privileged, written_of}
+use Rattle.psr.specs.Status.{mode_of, packed_word_of, privileged, written_of}
 use Rattle.psr.specs.With.{with_a, with_i, with_f}
 use Rattle.shifter.specs.Shifts.{immediate_of}
 use Rattle.cpu.specs.declared.Machine.{Machine}
@@ -13,7 +13,7 @@ use Rattle.banks.specs.Banks.{mode, switched_of, onward}
 -- A4.1.38 MRS: the packed word of the saved or the current record in Rd
 unfoldable pub mrs_of : Machine → ℕ → Machine
 mrs_of m op =
-    onward (with_regs m (set m.regs (op ⟨ 15 ‥ 12 ⟩) (packed_of (when op ⟨ 22 ⟩ then m.spsr else m.cpsr)).word))
+    onward (with_regs m (set m.regs (op ⟨ 15 ‥ 12 ⟩) (packed_word_of (when op ⟨ 22 ⟩ then m.spsr else m.cpsr))))
 
 -- A4.1.39 MSR: an immediate or Rm
 unfoldable pub msr_value_of : Machine → ℕ → ℕ

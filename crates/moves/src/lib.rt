@@ -1,10 +1,8 @@
 // MRS, MSR and CPS, on the machine by value.
-#![tactic(auto)]
+#![tactic(auto, using(bits::specs::Cases::cases))]
 
 ghost use Rattle.std.specs.Prelude.{◌≡◌};
 ghost use Rattle.bits.specs.Cases.{when◌then◌else◌};
-ghost use Rattle.psr.specs.Status.{privileged};
-ghost use Rattle.cpu.specs.With.{with_cpsr, with_spsr};
 ghost use Rattle.moves.specs.Moves.{mrs_of, msr_value_of, msr_of, cps_status_of, cps_of, moves_of};
 
 use cpu::Machine;
@@ -17,63 +15,43 @@ fn choose_record(m: Machine, saved: bool) -> Status
     if saved { m.spsr } else { m.cpsr }
 }
 
+#[tactic(auto, using(bits::specs::Cases::cases), unfolding(crate::specs::Moves::mrs_of))]
 fn mrs(m: Machine, op: u32) -> Machine
     ensures { result ≡ mrs_of m op }
 {
     let s = choose_record(m, op / 4194304 % 2 == 1);
-    let p = psr::pack(s);
     let mut out = m;
-    out.regs[(op / 4096 % 16) as usize] = p.word;
+    out.regs[(op / 4096 % 16) as usize] = psr::pack_or_zero(s);
     banks::move_on(out)
 }
 
+#[tactic(auto, using(bits::specs::Cases::cases), unfolding(crate::specs::Moves::msr_value_of))]
 fn msr_value(m: Machine, op: u32) -> u32
     ensures { result ≡ msr_value_of m op }
 {
     if op / 33554432 % 2 == 1 {
-        let o = shifter::immediate(op % 256, op / 256 % 16, false);
-        o.value
+        shifter::immediate(op % 256, op / 256 % 16, false).value
     } else {
         m.regs[(op % 16) as usize]
     }
 }
 
-fn is_privileged(m: Machine) -> bool
-    ensures { result ≡ privileged m.cpsr.mode }
-{
-    let s = m.cpsr;
-    let mode = s.mode;
-    psr::is_privileged(mode)
-}
-
-fn put_current(m: Machine, s: Status) -> Machine
-    ensures { result ≡ with_cpsr m s }
-{
-    let mut out = m;
-    out.cpsr = s;
-    out
-}
-
-fn put_saved(m: Machine, s: Status) -> Machine
-    ensures { result ≡ with_spsr m s }
-{
-    let mut out = m;
-    out.spsr = s;
-    out
-}
-
+#[tactic(auto, using(bits::specs::Cases::cases), unfolding(crate::specs::Moves::msr_of))]
 fn msr(m: Machine, op: u32) -> Machine
     ensures { result ≡ msr_of m op }
 {
     let value = msr_value(m, op);
     let mask = op / 65536 % 16;
     if op / 4194304 % 2 == 1 {
-        let s = psr::write_masked(m.spsr, value, mask, true);
-        banks::move_on(put_saved(m, s))
+        let spsr = psr::write_masked(m.spsr, value, mask, true);
+        banks::move_on(Machine { spsr, ..m })
     } else {
-        let s = psr::write_masked(m.cpsr, value, mask, is_privileged(m));
-        let mode = s.mode;
-        banks::move_on(put_current(banks::switch_mode(m, mode), s))
+        let privileged = psr::is_privileged(m.cpsr.mode);
+        let cpsr = psr::write_masked(m.cpsr, value, mask, privileged);
+        banks::move_on(Machine {
+            cpsr,
+            ..banks::switch_mode(m, cpsr.mode)
+        })
     }
 }
 
@@ -84,6 +62,7 @@ fn set_mask(named: bool, disable: bool, before: bool) -> bool
     if named { disable } else { before }
 }
 
+#[tactic(auto, using(bits::specs::Cases::cases), unfolding(crate::specs::Moves::cps_status_of))]
 fn cps_status(s: Status, op: u32) -> Status
     ensures { result ≡ cps_status_of s op }
 {
@@ -92,26 +71,24 @@ fn cps_status(s: Status, op: u32) -> Status
         let a = set_mask(op / 256 % 2 == 1, disable, s.a);
         let i = set_mask(op / 128 % 2 == 1, disable, s.i);
         let f = set_mask(op / 64 % 2 == 1, disable, s.f);
-        let mut out = s;
-        out.a = a;
-        out.i = i;
-        out.f = f;
-        out
+        Status { a, i, f, ..s }
     } else {
         s
     }
 }
 
+#[tactic(auto, using(bits::specs::Cases::cases), unfolding(crate::specs::Moves::cps_of))]
 fn cps(m: Machine, op: u32) -> Machine
     ensures { result ≡ cps_of m op }
 {
-    let runs = (op / 1048576 % 256 == 16) & is_privileged(m);
+    let runs = (op / 1048576 % 256 == 16) & psr::is_privileged(m.cpsr.mode);
     if runs {
-        let s = cps_status(m.cpsr, op);
-        let masked = put_current(m, s);
+        let masked = Machine {
+            cpsr: cps_status(m.cpsr, op),
+            ..m
+        };
         if op / 131072 % 2 == 1 {
-            let mode = psr::mode_of(op % 32);
-            banks::move_on(banks::switch_mode(masked, mode))
+            banks::move_on(banks::switch_mode(masked, psr::mode_of(op % 32)))
         } else {
             banks::move_on(masked)
         }
@@ -120,6 +97,7 @@ fn cps(m: Machine, op: u32) -> Machine
     }
 }
 
+#[tactic(auto, using(bits::specs::Cases::cases), unfolding(crate::specs::Moves::moves_of))]
 pub fn move_status(m: Machine, op: u32) -> Machine
     ensures { result ≡ moves_of m op }
 {

@@ -3,7 +3,7 @@
 
 ghost use Rattle.std.specs.Prelude.{◌≡◌, ◌+◌, ◌*◌, ◌≤◌, ◌<◌};
 ghost use Rattle.bits.specs.Fields.{bit_of};
-ghost use Rattle.psr.specs.Status.{mode_number, mode_of, word_of, Packs, Unpacks, passed_of, privileged, written_of};
+ghost use Rattle.psr.specs.Status.{mode_number, mode_of, word_of, packed_word_of, Packs, Unpacks, passed_of, privileged, written_of};
 ghost use Rattle.psr.specs.Laws.Parts.{flags_from, ge_from, extension_from, control_from};
 
 #[derive(Clone, Copy, PartialEq, Eq)]
@@ -106,6 +106,13 @@ pub fn pack(s: Status) -> Result<u32, GeTooLarge>
     } else {
         Ok(word_of(s))
     }
+}
+
+// The packed word, 0 where there is none.
+pub fn pack_or_zero(s: Status) -> u32
+    ensures { result ≡ packed_word_of s }
+{
+    pack(s).unwrap_or(0)
 }
 
 #[tactic(auto, using(bits::specs::Cases::cases), unfolding(crate::specs::Status::status_of))]
