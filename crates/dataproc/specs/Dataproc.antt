@@ -8,7 +8,8 @@ use Rattle.alu.specs.Sums.{add_of, adc_of, sub_of, sbc_of}
 use Rattle.shifter.specs.declared.Operand.{Operand}
 use Rattle.shifter.specs.Shifts.{type_of, by_immediate_of, by_register_of, immediate_of}
 use Rattle.cpu.specs.declared.Outcome.{Outcome}
-use Rattle.cpu.specs.Outcomes.{flags_of, returns, advanced, done_of, landed_of}
+use Rattle.cpu.specs.declared.Outcome.TheVariants.{Return}
+use Rattle.cpu.specs.Outcomes.{flags_of, advanced, done_of, landed_of}
 
 -- a shift amount in a register: the instruction takes a cycle more, and r15 reads A + 12 (A2.4.3, A5.1.6)
 abbrev pub shifts_by_register : ℕ → Bool
@@ -69,7 +70,7 @@ flagged_of regs x = (flags_of x.value x.carry x.overflow, advanced regs)
 unfoldable pub placed_of : List ℕ → ℕ → Sum → Outcome × List ℕ
 placed_of regs op x =
     when compares op then (when op ⟨ 20 ⟩ then flagged_of regs x else done_of regs)
-    else when op ⟨ 20 ⟩ then (when op ⟨ 15 ‥ 12 ⟩ == 15 then (returns x.value, regs) else flagged_of (set regs (op ⟨ 15 ‥ 12 ⟩) x.value) x)
+    else when op ⟨ 20 ⟩ then (when op ⟨ 15 ‥ 12 ⟩ == 15 then (Return x.value, regs) else flagged_of (set regs (op ⟨ 15 ‥ 12 ⟩) x.value) x)
     else landed_of regs (op ⟨ 15 ‥ 12 ⟩) x.value
 
 -- the instruction: r15 in regs is A + 8

@@ -1,5 +1,5 @@
 // Data-processing instructions, on lent registers.
-#![tactic(auto)]
+#![tactic(auto, using(bits::specs::Cases::cases))]
 
 ghost use Rattle.std.specs.Prelude.{◌≡◌, true, ◌<◌, get_or};
 ghost use Rattle.bits.specs.Fields.{◌⟨◌‥◌⟩};
@@ -20,12 +20,13 @@ pub struct Operands {
 }
 
 // A register read late: r15 is A + 12.
+#[tactic(auto, using(bits::specs::Cases::cases), unfolding(crate::specs::Dataproc::read_of))]
 fn read_late(regs: &[u32; 16], r: u32) -> u32
     requires { r < 16 }
     ensures { result ≡ read_of regs.now r true }
 {
     if r == 15 {
-        bits::wrapping_add(regs[15], 4)
+        regs[15].wrapping_add(4)
     } else {
         regs[r as usize]
     }
@@ -87,6 +88,7 @@ fn as_logical(value: u32, shifter: bool, v: bool) -> Sum
 }
 
 // Operation k.
+#[tactic(auto, using(bits::specs::Cases::cases), unfolding(crate::specs::Dataproc::result_of))]
 fn compute(k: u32, a: u32, b: u32, shifter: bool, c: bool, v: bool) -> Sum
     ensures { result ≡ result_of k a b shifter c v }
 {
@@ -114,27 +116,28 @@ fn compute(k: u32, a: u32, b: u32, shifter: bool, c: bool, v: bool) -> Sum
 fn set_flags(regs: &mut [u32; 16], x: Sum) -> Outcome
     ensures { (result, regs.new) ≡ flagged_of regs.old x }
 {
-    regs[15] = bits::wrapping_sub(regs[15], 4);
+    regs[15] = regs[15].wrapping_sub(4);
     cpu::set_flags_of(x.value, x.carry, x.overflow)
 }
 
 // The value of operation k alone: what an instruction without S needs.
+#[tactic(auto, using(bits::specs::Cases::cases), unfolding(crate::specs::Laws::Places::value_of))]
 fn compute_value(k: u32, a: u32, b: u32, c: bool) -> u32
     ensures { result ≡ value_of k a b c }
 {
     match k {
         0 => a & b,
         1 => a ^ b,
-        2 => take_value(alu::sub_with_flags(a, b)),
-        3 => take_value(alu::sub_with_flags(b, a)),
-        4 => take_value(alu::add_with_flags(a, b)),
-        5 => take_value(alu::adc_with_flags(a, b, c)),
-        6 => take_value(alu::sbc_with_flags(a, b, c)),
-        7 => take_value(alu::sbc_with_flags(b, a, c)),
+        2 => alu::sub_with_flags(a, b).value,
+        3 => alu::sub_with_flags(b, a).value,
+        4 => alu::add_with_flags(a, b).value,
+        5 => alu::adc_with_flags(a, b, c).value,
+        6 => alu::sbc_with_flags(a, b, c).value,
+        7 => alu::sbc_with_flags(b, a, c).value,
         8 => a & b,
         9 => a ^ b,
-        10 => take_value(alu::sub_with_flags(a, b)),
-        11 => take_value(alu::add_with_flags(a, b)),
+        10 => alu::sub_with_flags(a, b).value,
+        11 => alu::add_with_flags(a, b).value,
         12 => a | b,
         13 => b,
         14 => a & !b,
@@ -142,23 +145,19 @@ fn compute_value(k: u32, a: u32, b: u32, c: bool) -> u32
     }
 }
 
-fn take_value(x: Sum) -> u32
-    ensures { result ≡ x.value }
-{
-    x.value
-}
-
 // A compare keeps the register.
+#[tactic(auto, using(bits::specs::Cases::cases), unfolding(crate::specs::Laws::Places::put_unless))]
 fn put_unless(keep: bool, regs: &mut [u32; 16], rd: u32, value: u32)
     requires { rd < 16 }
     ensures { regs.new ≡ put_unless keep regs.old rd value }
 {
-    if keep {} else {
+    if !keep {
         regs[rd as usize] = value;
     }
 }
 
 // Where the result goes with S; the flags are set in one place, so that the engine's match over the kind is taken at once.
+#[tactic(auto, using(bits::specs::Cases::cases), unfolding(crate::specs::Laws::Places::placed_with_flags))]
 fn place_with_flags(regs: &mut [u32; 16], op: u32, x: Sum) -> Outcome
     ensures { (result, regs.new) ≡ placed_with_flags regs.old op x }
 {
@@ -166,7 +165,7 @@ fn place_with_flags(regs: &mut [u32; 16], op: u32, x: Sum) -> Outcome
     let compares = op / 8388608 % 4 == 2;
     let returns = (rd == 15) & !compares;
     if returns {
-        cpu::return_to(x.value)
+        Outcome::Return(x.value)
     } else {
         put_unless(compares, regs, rd, x.value);
         set_flags(regs, x)
@@ -174,6 +173,7 @@ fn place_with_flags(regs: &mut [u32; 16], op: u32, x: Sum) -> Outcome
 }
 
 // And without S.
+#[tactic(auto, using(bits::specs::Cases::cases), unfolding(crate::specs::Laws::Places::placed_value))]
 fn place_value(regs: &mut [u32; 16], op: u32, value: u32) -> Outcome
     ensures { (result, regs.new) ≡ placed_value regs.old op value }
 {

@@ -5,7 +5,8 @@ use Rattle.bits.specs.Fields.{◌⟨◌⟩, ◌⟨◌‥◌⟩, bit_of}
 use Rattle.bits.specs.Integers.{signed, wrap}
 use Rattle.bits.specs.Words.{zeros_above}
 use Rattle.cpu.specs.declared.Outcome.{Outcome}
-use Rattle.cpu.specs.Outcomes.{exchange, jumped_of, put_of, exchanged_of}
+use Rattle.cpu.specs.declared.Outcome.TheVariants.{Exchange}
+use Rattle.cpu.specs.Outcomes.{jumped_of, put_of, exchanged_of}
 
 -- r14 becomes the address of the next instruction, A + 4
 abbrev pub linked : List ℕ → List ℕ
@@ -30,7 +31,7 @@ branch_exchange_of regs op =
 -- A4.1.8 BLX (1): always to Thumb state; bit 24 is bit 1 of the target
 unfoldable pub branch_link_exchange_of : List ℕ → ℕ → Outcome × List ℕ
 branch_link_exchange_of regs op =
-    (exchange true, set (linked regs) 15 ((target_of regs op + bit_of (op ⟨ 24 ⟩) * 2) % 2 ^ 32 / 2 * 2))
+    (Exchange true, set (linked regs) 15 ((target_of regs op + bit_of (op ⟨ 24 ⟩) * 2) % 2 ^ 32 / 2 * 2))
 
 -- A4.1.13 CLZ
 unfoldable pub clz_of : List ℕ → ℕ → Outcome × List ℕ

@@ -7,7 +7,8 @@ use Rattle.bits.specs.Fields.{◌⟨◌⟩, ◌⟨◌‥◌⟩}
 use Rattle.alu.specs.declared.Sum.{Sum}
 use Rattle.alu.specs.Sums.{add_of, adc_of, sub_of, sbc_of}
 use Rattle.cpu.specs.declared.Outcome.{Outcome}
-use Rattle.cpu.specs.Outcomes.{returns, done_of, landed_of}
+use Rattle.cpu.specs.declared.Outcome.TheVariants.{Return}
+use Rattle.cpu.specs.Outcomes.{done_of, landed_of}
 use Rattle.dataproc.specs.Dataproc.{compares, result_of, flagged_of, placed_of}
 
 -- a register written, unless it is to be kept
@@ -29,7 +30,7 @@ reordered false false last flagged done returned landed kept put = refl
 -- where a result goes with S, and a value without
 unfoldable pub placed_with_flags : List ℕ → ℕ → Sum → Outcome × List ℕ
 placed_with_flags regs op x =
-    when (op ⟨ 15 ‥ 12 ⟩ == 15) && not (compares op) then (returns x.value, regs)
+    when (op ⟨ 15 ‥ 12 ⟩ == 15) && not (compares op) then (Return x.value, regs)
     else flagged_of (put_unless (compares op) regs (op ⟨ 15 ‥ 12 ⟩) x.value) x
 
 unfoldable pub placed_value : List ℕ → ℕ → ℕ → Outcome × List ℕ
@@ -38,7 +39,7 @@ placed_value regs op value = when compares op then done_of regs else landed_of r
 placed_by : (regs : List ℕ) (op : ℕ) (x : Sum) → (when op ⟨ 20 ⟩ then placed_with_flags regs op x else placed_value regs op x.value) ≡ placed_of regs op x
 unfolding placed_of placed_with_flags placed_value put_unless
 placed_by regs op x =
-    reordered (compares op) (op ⟨ 20 ⟩) (op ⟨ 15 ‥ 12 ⟩ == 15) (λ (y : List ℕ). flagged_of y x) (done_of regs) (returns x.value, regs)
+    reordered (compares op) (op ⟨ 20 ⟩) (op ⟨ 15 ‥ 12 ⟩ == 15) (λ (y : List ℕ). flagged_of y x) (done_of regs) (Return x.value, regs)
     (landed_of regs (op ⟨ 15 ‥ 12 ⟩) x.value) regs (set regs (op ⟨ 15 ‥ 12 ⟩) x.value)
 
 pub placed_with_flags_lem : (regs : List ℕ) (op : ℕ) (x : Sum) → op ⟨ 20 ⟩ ≡ true → placed_with_flags regs op x ≡ placed_of regs op x
