@@ -8,8 +8,7 @@ pub read32-requires : goal.read32-requires
 read32-requires c = loading_here c.loop-i.invariant c.loop-i-test.true
 
 pub loop-i-preserved : goal.loop-i-preserved
-loop-i-preserved c =
-    rw (c.read32.ensures, c.wrapping_add-a.ensures) (loading_next c.loop-i.invariant c.loop-i-test.true)
+loop-i-preserved c = rw c.read32.ensures (loading_next c.loop-i.invariant c.loop-i-test.true)
 
 pub returns : goal.returns
 returns c = loading_last c.loop-i.invariant c.loop-i-test.false
