@@ -90,7 +90,7 @@ pub fn find_outside(len: usize, address: u32, width: u32, count: u32) -> Option<
     ensures { result ≡ outside_of len address width count }
 {
     let mut at = address;
-    for i in 0..count {
+    for _ in 0..count {
         if reaches_out(len, at, width) {
             return Some(at);
         }
@@ -115,8 +115,8 @@ pub fn load_words(mem: &[u8], at: u32, count: u32, values: &mut [u32; 16])
     ensures { values.new ≡ loaded_of mem.now at count values.old }
 {
     let mut a = at;
-    for i in 0..count as usize {
-        values[i] = read32(mem, a);
+    for value in &mut values[..count as usize] {
+        *value = read32(mem, a);
         a = a.wrapping_add(4);
     }
 }
@@ -127,8 +127,8 @@ pub fn store_words(mem: &mut [u8], at: u32, count: u32, values: &[u32; 16])
     ensures { mem.new ≡ stored_of mem.old at count values.now }
 {
     let mut a = at;
-    for i in 0..count as usize {
-        write32(mem, a, values[i]);
+    for value in &values[..count as usize] {
+        write32(mem, a, *value);
         a = a.wrapping_add(4);
     }
 }

@@ -5,12 +5,12 @@ use Rattle.memory.proofs.find_outside.Goals as goal
 
 pub returns-then-reaches_out : goal.returns-then-reaches_out
 returns-then-reaches_out c =
-    sym (c.loop-i.invariant ∙ out_here _ _ _ _ (omega (arith, c.loop-i-test.true)) (sym c.reaches_out.ensures ∙ c.if-reaches_out.true))
+    sym (c.loop.invariant ∙ out_here _ _ _ _ (omega (arith, c.loop-test.true)) (sym c.reaches_out.ensures ∙ c.if-reaches_out.true))
 
-pub loop-i-preserved : goal.loop-i-preserved
-loop-i-preserved c =
-    rw (← left_next c.args.count c.loop-i.i)
-    (c.loop-i.invariant ∙ out_later _ _ _ _ (omega (arith, c.loop-i-test.true)) (sym c.reaches_out.ensures ∙ c.if-reaches_out.false))
+pub loop-preserved : goal.loop-preserved
+loop-preserved c =
+    rw (← left_next c.args.count c.loop.counter)
+    (c.loop.invariant ∙ out_later _ _ _ _ (omega (arith, c.loop-test.true)) (sym c.reaches_out.ensures ∙ c.if-reaches_out.false))
 
 pub returns : goal.returns
-returns c = sym (c.loop-i.invariant ∙ out_none _ _ _ _ (omega (arith, c.loop-i-test.false)))
+returns c = sym (c.loop.invariant ∙ out_none _ _ _ _ (omega (arith, c.loop-test.false)))

@@ -1,10 +1,11 @@
 -- Plans a turn at a time, and what their answers say of every access.
-use Rattle.std.specs.Prelude.{◌≡◌, Bool, true, false, Option, Some, None, Result, Ok, Err, List, [], ◌∷◌, ◌++◌, ℕ, zero, suc, ◌+◌, ◌-◌, ◌*◌, ◌%◌, ◌^◌, ◌≤◌, ◌<◌, length, get_or, set, drop}
+use Rattle.std.specs.Prelude.{◌≡◌, Bool, true, false, Option, Some, None, Result, Ok, Err, List, [], ◌∷◌, ◌++◌, ℕ, zero, suc, ◌+◌, ◌-◌, ◌*◌, ◌%◌, ◌^◌, ◌≤◌, ◌<◌, length, get_or, set, take, drop}
 use Rattle.std.proofs.Math.Path.{refl, sym, ap}
-use Rattle.std.proofs.Common.{◌∙◌, mod-eq_of_lt, mul-suc, get_or-drop, drop-drop, rules, ltb-true, ltb-false, lt-ltb, le-ltb}
+use Rattle.std.proofs.Common.{◌∙◌, mod-eq_of_lt, mul-suc, get_or-drop, drop-drop, append-nil, length-take-le, rules, ltb-true, ltb-false, lt-ltb, le-ltb}
 use native.Mathlib.Omega.{arith}
 use Rattle.std.proofs.Math.Numerals.{add-one}
 use Rattle.std.proofs.Math.Nat.{mod-add-mod}
+use Rattle.std.proofs.lemmas.List.{drop_all}
 use Rattle.std.proofs.lemmas.List.Edits.{sets, sets-eq}
 use Rattle.bits.specs.Cases.{when◌then◌else◌, if_yes, if_no}
 use Rattle.bits.specs.Laws.Order.{left_next}
@@ -184,6 +185,14 @@ unfolding loaded_of
 loaded_is l at count values h =
     let n : length (words_at l (accesses_of at 4 count)) ≡ count = length_words_at l (accesses_of at 4 count) ∙ length_accesses at 4 count in
     sets-eq (words_at l (accesses_of at 4 count)) values 0 (rw n (omega arith)) ∙ rw n (let e : 0 + count ≡ count = omega arith in rw e)
+
+-- the same where the words went into the first of the values alone
+pub loaded_front : (l : List ℕ) (at count : ℕ) (values front : List ℕ) → count ≤ length values → front ≡ loaded_of l at count (take count values)
+    → front ++ drop count values ≡ loaded_of l at count values
+loaded_front l at count values front h e =
+    let n : length (take count values) ≡ count = length-take-le count values h in
+    let z : drop count (take count values) ≡ [] = drop_all count (take count values) (omega (arith, n)) in
+    rw (e, loaded_is l at count (take count values) (omega (arith, n)), z, loaded_is l at count values h, append-nil)
 
 -- A load under way: i words are in their places, the others will come from a on.
 pub record Loading (l : List ℕ) (at count : ℕ) (before values : List ℕ) (a i : ℕ) : Type 0 where
