@@ -61,13 +61,10 @@ load_plan_of l at count values = performed_of (outside_of (length l) at 4 count)
 abbrev pub store_plan_of : List ℕ → ℕ → ℕ → List ℕ → Result Unit Outside × List ℕ
 store_plan_of l at count values = performed_of (outside_of (length l) at 4 count) l (stored_of l at count values)
 
--- the second word of a pair
-abbrev pub next_of : ℕ → ℕ
-next_of at = (at + 4) % 2 ^ 32
-
+-- two words; the second address wraps at 32 bits
 abbrev pub load_pair_of : List ℕ → ℕ → Result (ℕ × ℕ) Outside
-load_pair_of l at = within_of (outside_of (length l) at 4 2) (word_at l at, word_at l (next_of at))
+load_pair_of l at = within_of (outside_of (length l) at 4 2) (word_at l at, word_at l ((at + 4) % 2 ^ 32))
 
 abbrev pub store_pair_of : List ℕ → ℕ → ℕ → ℕ → Result Unit Outside × List ℕ
 store_pair_of l at low high =
-    performed_of (outside_of (length l) at 4 2) l (put_word (put_word l at low) (next_of at) high)
+    performed_of (outside_of (length l) at 4 2) l (put_word (put_word l at low) ((at + 4) % 2 ^ 32) high)

@@ -274,10 +274,16 @@ module _ {A : Type 0} {r : Result Unit Outside} {x : A} (f : Option ℕ) (before
   performed_kept : x ≡ kept_of f before after
   performed_kept = ap (λ (p : Result Unit Outside × A). p.1) e
 
+  pub performed_none : r ≡ Ok tt → f ≡ None
+  performed_none h = (within_ok f tt tt (sym performed_same ∙ h)).0
+
+  pub performed_some : (o : Outside) → r ≡ Err o → f ≡ Some o.0
+  performed_some o h = within_err f tt o (sym performed_same ∙ h)
+
   pub performed_inside : r ≡ Ok tt → x ≡ after
   unfolding kept_of
-  performed_inside h = performed_kept ∙ rw (within_ok f tt tt (sym performed_same ∙ h)).0
+  performed_inside h = performed_kept ∙ rw (performed_none h)
 
   pub performed_outside : (o : Outside) → r ≡ Err o → x ≡ before
   unfolding kept_of
-  performed_outside o h = performed_kept ∙ rw (within_err f tt o (sym performed_same ∙ h))
+  performed_outside o h = performed_kept ∙ rw (performed_some o h)
