@@ -1,5 +1,6 @@
 -- Swaps, and loads and stores exclusive, on the sixteen registers and memory; r15 in regs is A + 8. The address is Rn as it stands; D7.
-use Rattle.std.specs.Prelude.{Bool, false, Option, Some, None, List, ℕ, ◌+◌, ◌%◌, ◌^◌, length, get_or, set, ◌==◌}
+use Rattle.std.specs.Prelude.{Bool, eqb, Option, Some, List, ℕ, ◌+◌, ◌%◌, ◌^◌, length, get_or, set, ◌==◌}
+use Rattle.std.specs.Option.{option_eq}
 use Rattle.bits.specs.Cases.{when◌then◌else◌}
 use Rattle.bits.specs.Fields.{◌⟨◌⟩, ◌⟨◌‥◌⟩}
 use Rattle.memory.specs.declared.Width.{Width}
@@ -54,8 +55,7 @@ ldrexd_of regs op l =
 
 -- a store succeeds exactly when there is a tag and it is the address; D5: the width of the load is not compared
 abbrev pub succeeds : List ℕ → ℕ → Option ℕ → Bool
-succeeds regs op None = false
-succeeds regs op (Some tag) = tag == base_of regs op
+succeeds regs op tag = option_eq eqb tag (Some (base_of regs op))
 
 -- status 0 in Rd, and the tag goes
 abbrev pub succeeded_of : List ℕ → ℕ → Outcome × List ℕ

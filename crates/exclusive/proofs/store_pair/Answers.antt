@@ -8,3 +8,22 @@ use Rattle.exclusive.proofs.store_pair.Goals as goal
 pub returns-then-rm-eq15 : goal.returns-then-rm-eq15
 unfolding strexd_of when◌then◌else◌
 returns-then-rm-eq15 c = rw c.if-rm-eq15.true (beside_is c.refuse.ensures)
+
+pub returns-in-Ok : goal.returns-in-Ok
+unfolding strexd_of when◌then◌else◌
+returns-in-Ok c =
+    let a = c.args in
+    rw (ne_eqb _ _ c.if-rm-eq15.false, sym c.eq.ensures ∙ c.if-eq.true, performed_inside _ _ _ c.store_pair.ensures c.in-Ok.is)
+    (beside_is c.succeed.ensures ∙ sym (guarded_inside a.regs.now a.mem.now _ _ (performed_none _ _ _ c.store_pair.ensures c.in-Ok.is)))
+
+pub returns-in-Err : goal.returns-in-Err
+unfolding strexd_of when◌then◌else◌
+returns-in-Err c =
+    let a = c.args in
+    rw (ne_eqb _ _ c.if-rm-eq15.false, sym c.eq.ensures ∙ c.if-eq.true, performed_outside _ _ _ c.store_pair.ensures _ c.in-Err.is, c.stop_with.ensures)
+    (sym (guarded_outside a.regs.now a.mem.now _ _ _ (performed_some _ _ _ c.store_pair.ensures _ c.in-Err.is)))
+
+pub returns-else-eq : goal.returns-else-eq
+unfolding strexd_of when◌then◌else◌
+returns-else-eq c =
+    rw (ne_eqb _ _ c.if-rm-eq15.false, sym c.eq.ensures ∙ c.if-eq.false) (beside_is c.fail.ensures)
