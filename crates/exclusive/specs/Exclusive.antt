@@ -1,35 +1,34 @@
 -- Swaps, and loads and stores exclusive, on the sixteen registers and memory; r15 in regs is A + 8. The address is Rn as it stands; D7.
-use Rattle.std.specs.Prelude.{Bool, ◌&&◌, List, ℕ, ◌+◌, ◌%◌, ◌^◌, length, get_or, set, ◌==◌}
+use Rattle.std.specs.Prelude.{Bool, eqb, Option, Some, List, ℕ, ◌+◌, ◌%◌, ◌^◌, length, get_or, set, ◌==◌}
+use Rattle.std.specs.Option.{option_eq}
 use Rattle.bits.specs.Cases.{when◌then◌else◌}
 use Rattle.bits.specs.Fields.{◌⟨◌⟩, ◌⟨◌‥◌⟩}
-use Rattle.memory.specs.Bytes.{word_at, put_word, read_of, written_of}
+use Rattle.memory.specs.declared.Width.{Width}
+use Rattle.memory.specs.declared.Width.TheVariants.{Byte, Half, Word}
+use Rattle.memory.specs.Bytes.{word_at, put_word, bytes_of, read_of, written_of}
 use Rattle.memory.specs.Plans.{outside_of}
 use Rattle.cpu.specs.declared.Outcome.{Outcome}
 use Rattle.cpu.specs.Outcomes.{tagged, untagged, undefined_of, landed_of}
-use Rattle.transfer.specs.Transfers.{guarded_of, beside, base_of}
+use Rattle.transfer.specs.Transfers.{guarded_of, beside, byte_or_word_of, base_of}
 
 -- Rm, bits 3-0
 abbrev pub source_of : List ℕ → ℕ → ℕ
 source_of regs op = get_or regs (op ⟨ 3 ‥ 0 ⟩) 0
 
--- B, bit 22: a byte, or a word
-unfoldable pub swap_width_of : ℕ → ℕ
-swap_width_of op = when op ⟨ 22 ⟩ then 1 else 4
-
 -- A4.1.108 SWP, A4.1.109 SWPB: Rd gets what memory held, and memory Rm; D4: bits 21-20 are not looked at
 unfoldable pub swap_of : List ℕ → ℕ → List ℕ → Outcome × List ℕ × List ℕ
 swap_of regs op l =
-    guarded_of (outside_of (length l) (base_of regs op) (swap_width_of op) 1) regs l
+    guarded_of (outside_of (length l) (base_of regs op) (bytes_of (byte_or_word_of op)) 1) regs l
     (beside
-    (landed_of regs (op ⟨ 15 ‥ 12 ⟩) (read_of l (base_of regs op) (swap_width_of op)))
-    (written_of l (base_of regs op) (swap_width_of op) (source_of regs op)))
+    (landed_of regs (op ⟨ 15 ‥ 12 ⟩) (read_of l (base_of regs op) (byte_or_word_of op)))
+    (written_of l (base_of regs op) (byte_or_word_of op) (source_of regs op)))
 
 -- bits 22-21: 00 a word, 01 a doubleword, 10 a byte, 11 a halfword; a doubleword goes in two words
 abbrev pub doubled : ℕ → Bool
 doubled op = op ⟨ 22 ‥ 21 ⟩ == 1
 
-unfoldable pub width_of : ℕ → ℕ
-width_of op = when op ⟨ 22 ‥ 21 ⟩ == 2 then 1 else when op ⟨ 22 ‥ 21 ⟩ == 3 then 2 else 4
+unfoldable pub width_of : ℕ → Width
+width_of op = when op ⟨ 22 ‥ 21 ⟩ == 2 then Byte else when op ⟨ 22 ‥ 21 ⟩ == 3 then Half else Word
 
 -- the address of a doubleword's second word
 abbrev pub second_of : List ℕ → ℕ → ℕ
@@ -42,7 +41,7 @@ marked_of regs rd value at = (tagged at, (landed_of regs rd value).1)
 -- A4.1.27 LDREX; DDI 0406C, LDREXB and LDREXH
 unfoldable pub ldrex_of : List ℕ → ℕ → List ℕ → Outcome × List ℕ × List ℕ
 ldrex_of regs op l =
-    guarded_of (outside_of (length l) (base_of regs op) (width_of op) 1) regs l
+    guarded_of (outside_of (length l) (base_of regs op) (bytes_of (width_of op)) 1) regs l
     (beside (marked_of regs (op ⟨ 15 ‥ 12 ⟩) (read_of l (base_of regs op) (width_of op)) (base_of regs op)) l)
 
 -- DDI 0406C, LDREXD: r15 first has no partner, and is Undefined; the first register is written as it is
@@ -55,8 +54,8 @@ ldrexd_of regs op l =
     l)
 
 -- a store succeeds exactly when there is a tag and it is the address; D5: the width of the load is not compared
-abbrev pub succeeds : List ℕ → ℕ → Bool → ℕ → Bool
-succeeds regs op present tag = present && (tag == base_of regs op)
+abbrev pub succeeds : List ℕ → ℕ → Option ℕ → Bool
+succeeds regs op tag = option_eq eqb tag (Some (base_of regs op))
 
 -- status 0 in Rd, and the tag goes
 abbrev pub succeeded_of : List ℕ → ℕ → Outcome × List ℕ
@@ -67,27 +66,27 @@ abbrev pub failed_of : List ℕ → ℕ → Outcome × List ℕ
 failed_of regs op = landed_of regs (op ⟨ 15 ‥ 12 ⟩) 1
 
 -- A4.1.103 STREX; DDI 0406C, STREXB and STREXH
-unfoldable pub strex_of : List ℕ → ℕ → Bool → ℕ → List ℕ → Outcome × List ℕ × List ℕ
-strex_of regs op present tag l =
-    when succeeds regs op present tag
-    then guarded_of (outside_of (length l) (base_of regs op) (width_of op) 1) regs l
+unfoldable pub strex_of : List ℕ → ℕ → Option ℕ → List ℕ → Outcome × List ℕ × List ℕ
+strex_of regs op tag l =
+    when succeeds regs op tag
+    then guarded_of (outside_of (length l) (base_of regs op) (bytes_of (width_of op)) 1) regs l
     (beside (succeeded_of regs op) (written_of l (base_of regs op) (width_of op) (source_of regs op)))
     else beside (failed_of regs op) l
 
 -- DDI 0406C, STREXD: r15 first has no partner, and is Undefined before the tag is looked at
-unfoldable pub strexd_of : List ℕ → ℕ → Bool → ℕ → List ℕ → Outcome × List ℕ × List ℕ
-strexd_of regs op present tag l =
+unfoldable pub strexd_of : List ℕ → ℕ → Option ℕ → List ℕ → Outcome × List ℕ × List ℕ
+strexd_of regs op tag l =
     when op ⟨ 3 ‥ 0 ⟩ == 15 then beside (undefined_of regs op) l
-    else when succeeds regs op present tag
+    else when succeeds regs op tag
     then guarded_of (outside_of (length l) (base_of regs op) 4 2) regs l
     (beside
     (succeeded_of regs op)
     (put_word (put_word l (base_of regs op) (source_of regs op)) (second_of regs op) (get_or regs (op ⟨ 3 ‥ 0 ⟩ + 1) 0)))
     else beside (failed_of regs op) l
 
--- L, bit 20: a load, or a store; the tag is whether there is one, and its address
-unfoldable pub exclusive_of : List ℕ → ℕ → Bool → ℕ → List ℕ → Outcome × List ℕ × List ℕ
-exclusive_of regs op present tag l =
+-- L, bit 20: a load, or a store
+unfoldable pub exclusive_of : List ℕ → ℕ → Option ℕ → List ℕ → Outcome × List ℕ × List ℕ
+exclusive_of regs op tag l =
     when op ⟨ 20 ⟩ then (when doubled op then ldrexd_of regs op l else ldrex_of regs op l)
-    else when doubled op then strexd_of regs op present tag l
-    else strex_of regs op present tag l
+    else when doubled op then strexd_of regs op tag l
+    else strex_of regs op tag l

@@ -2,24 +2,17 @@
 #![tactic(auto)]
 
 ghost use Rattle.std.specs.Prelude.{◌≡◌, ◌<◌};
-ghost use Rattle.memory.specs.Bytes.{Width};
-ghost use Rattle.exclusive.specs.Exclusive.{swap_width_of, swap_of, width_of, ldrex_of, ldrexd_of, marked_of, succeeded_of, failed_of, strex_of, strexd_of, exclusive_of};
+ghost use Rattle.exclusive.specs.Exclusive.{swap_of, width_of, ldrex_of, ldrexd_of, marked_of, succeeded_of, failed_of, strex_of, strexd_of, exclusive_of};
 
 use cpu::{Answer, Outcome};
-use memory::Found;
-
-fn swap_width(op: u32) -> u32
-    ensures { (result ≡ swap_width_of op) × Width result }
-{
-    if op / 4194304 % 2 == 1 { 1 } else { 4 }
-}
+use memory::{Outside, Width};
 
 pub fn swap(regs: &mut [u32; 16], mem: &mut [u8], op: u32) -> Outcome
     ensures { (result, regs.new, mem.new) ≡ swap_of regs.old op mem.old }
 {
     let at = regs[(op / 65536 % 16) as usize];
-    let width = swap_width(op);
-    if memory::reaches_out(mem.len(), at, width) {
+    let width = transfer::find_width(op);
+    if memory::reaches_out(mem.len(), at, width.bytes()) {
         cpu::stop_with(Answer::Bus(at))
     } else {
         let old = memory::load(mem, at, width);
@@ -28,15 +21,13 @@ pub fn swap(regs: &mut [u32; 16], mem: &mut [u8], op: u32) -> Outcome
     }
 }
 
-fn size_width(op: u32) -> u32
-    ensures { (result ≡ width_of op) × Width result }
+fn size_width(op: u32) -> Width
+    ensures { result ≡ width_of op }
 {
-    if op / 2097152 % 4 == 2 {
-        1
-    } else if op / 2097152 % 4 == 3 {
-        2
-    } else {
-        4
+    match op / 2097152 % 4 {
+        2 => Width::Byte,
+        3 => Width::Half,
+        _ => Width::Word,
     }
 }
 
@@ -55,7 +46,7 @@ fn load_one(regs: &mut [u32; 16], mem: &[u8], op: u32) -> Outcome
 {
     let at = regs[(op / 65536 % 16) as usize];
     let width = size_width(op);
-    if memory::reaches_out(mem.len(), at, width) {
+    if memory::reaches_out(mem.len(), at, width.bytes()) {
         cpu::stop_with(Answer::Bus(at))
     } else {
         let value = memory::load(mem, at, width);
@@ -72,14 +63,12 @@ fn load_pair(regs: &mut [u32; 16], mem: &[u8], op: u32) -> Outcome
         cpu::refuse(regs, op)
     } else {
         let at = regs[(op / 65536 % 16) as usize];
-        let found = memory::find_outside(mem.len(), at, 4, 2);
-        match found {
-            Found::Inside => {
-                regs[rd as usize] = memory::read32(mem, at);
-                let second = memory::read32(mem, bits::wrapping_add(at, 4));
+        match memory::load_pair(mem, at) {
+            Ok((first, second)) => {
+                regs[rd as usize] = first;
                 give_tagged(regs, rd + 1, second, at)
             }
-            Found::Outside(address) => cpu::stop_with(Answer::Bus(address)),
+            Err(Outside(address)) => cpu::stop_with(Answer::Bus(address)),
         }
     }
 }
@@ -100,14 +89,13 @@ fn fail(regs: &mut [u32; 16], op: u32) -> Outcome
 }
 
 // STREX, STREXB, STREXH.
-fn store_one(regs: &mut [u32; 16], mem: &mut [u8], op: u32, tagged: bool, tag: u32) -> Outcome
-    ensures { (result, regs.new, mem.new) ≡ strex_of regs.old op tagged tag mem.old }
+fn store_one(regs: &mut [u32; 16], mem: &mut [u8], op: u32, tag: Option<u32>) -> Outcome
+    ensures { (result, regs.new, mem.new) ≡ strex_of regs.old op tag mem.old }
 {
     let at = regs[(op / 65536 % 16) as usize];
-    let succeeds = tagged & (tag == at);
-    if succeeds {
+    if tag == Some(at) {
         let width = size_width(op);
-        if memory::reaches_out(mem.len(), at, width) {
+        if memory::reaches_out(mem.len(), at, width.bytes()) {
             cpu::stop_with(Answer::Bus(at))
         } else {
             let value = regs[(op % 16) as usize];
@@ -120,24 +108,18 @@ fn store_one(regs: &mut [u32; 16], mem: &mut [u8], op: u32, tagged: bool, tag: u
 }
 
 // STREXD.
-fn store_pair(regs: &mut [u32; 16], mem: &mut [u8], op: u32, tagged: bool, tag: u32) -> Outcome
-    ensures { (result, regs.new, mem.new) ≡ strexd_of regs.old op tagged tag mem.old }
+fn store_pair(regs: &mut [u32; 16], mem: &mut [u8], op: u32, tag: Option<u32>) -> Outcome
+    ensures { (result, regs.new, mem.new) ≡ strexd_of regs.old op tag mem.old }
 {
     let rm = op % 16;
     if rm == 15 {
         cpu::refuse(regs, op)
     } else {
         let at = regs[(op / 65536 % 16) as usize];
-        let succeeds = tagged & (tag == at);
-        if succeeds {
-            let found = memory::find_outside(mem.len(), at, 4, 2);
-            match found {
-                Found::Inside => {
-                    memory::write32(mem, at, regs[rm as usize]);
-                    memory::write32(mem, bits::wrapping_add(at, 4), regs[(rm + 1) as usize]);
-                    succeed(regs, op)
-                }
-                Found::Outside(address) => cpu::stop_with(Answer::Bus(address)),
+        if tag == Some(at) {
+            match memory::store_pair(mem, at, regs[rm as usize], regs[(rm + 1) as usize]) {
+                Ok(()) => succeed(regs, op),
+                Err(Outside(address)) => cpu::stop_with(Answer::Bus(address)),
             }
         } else {
             fail(regs, op)
@@ -145,9 +127,9 @@ fn store_pair(regs: &mut [u32; 16], mem: &mut [u8], op: u32, tagged: bool, tag: 
     }
 }
 
-// The exclusive tag comes as whether there is one, and its address.
-pub fn execute(regs: &mut [u32; 16], mem: &mut [u8], op: u32, tagged: bool, tag: u32) -> Outcome
-    ensures { (result, regs.new, mem.new) ≡ exclusive_of regs.old op tagged tag mem.old }
+// The exclusive tag comes as its address, where there is one.
+pub fn execute(regs: &mut [u32; 16], mem: &mut [u8], op: u32, tag: Option<u32>) -> Outcome
+    ensures { (result, regs.new, mem.new) ≡ exclusive_of regs.old op tag mem.old }
 {
     if op / 1048576 % 2 == 1 {
         if op / 2097152 % 4 == 1 {
@@ -156,8 +138,8 @@ pub fn execute(regs: &mut [u32; 16], mem: &mut [u8], op: u32, tagged: bool, tag:
             load_one(regs, mem, op)
         }
     } else if op / 2097152 % 4 == 1 {
-        store_pair(regs, mem, op, tagged, tag)
+        store_pair(regs, mem, op, tag)
     } else {
-        store_one(regs, mem, op, tagged, tag)
+        store_one(regs, mem, op, tag)
     }
 }

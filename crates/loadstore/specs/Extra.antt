@@ -3,6 +3,7 @@ use Rattle.std.specs.Prelude.{List, ℕ, ◌+◌, ◌*◌, ◌%◌, ◌^◌, len
 use Rattle.bits.specs.Cases.{when◌then◌else◌}
 use Rattle.bits.specs.Fields.{◌⟨◌⟩, ◌⟨◌‥◌⟩}
 use Rattle.bits.specs.Words.{extended_of}
+use Rattle.memory.specs.declared.Width.TheVariants.{Half}
 use Rattle.memory.specs.Bytes.{byte_at, half_at, word_at, put_word}
 use Rattle.memory.specs.Plans.{outside_of}
 use Rattle.cpu.specs.declared.Answer.TheVariants.{TransferForm}
@@ -25,7 +26,7 @@ extra_load_of regs op l moved address width value =
 -- A4.1.104 STRH: r15 is A + 8
 abbrev pub strh_of : List ℕ → ℕ → List ℕ → ℕ → ℕ → Outcome × List ℕ × List ℕ
 strh_of regs op l moved address =
-    guarded_of (outside_of (length l) address 2 1) regs l (store_of regs op l moved address 2 (get_or regs (rd_of op) 0))
+    guarded_of (outside_of (length l) address 2 1) regs l (store_of regs op l moved address Half (get_or regs (rd_of op) 0))
 
 -- the second word of a pair
 abbrev pub next_of : ℕ → ℕ

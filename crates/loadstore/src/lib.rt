@@ -1,14 +1,14 @@
 // Loads and stores of one register or of a pair, on lent registers and memory.
 #![tactic(auto)]
 
-ghost use Rattle.std.specs.Prelude.{◌≡◌, ◌+◌, ◌*◌, ◌/◌, ◌%◌, ◌<◌, ◌≤◌, length};
-ghost use Rattle.memory.specs.Bytes.{Width};
-ghost use Rattle.loadstore.specs.Single.{offset_of, width_of, taken_of, load_of, source_of, store_of, single_at, single_of};
+ghost use Rattle.std.specs.Prelude.{◌≡◌, ◌+◌, ◌/◌, ◌%◌, ◌<◌, ◌≤◌, length};
+ghost use Rattle.memory.specs.Bytes.{bytes_of};
+ghost use Rattle.loadstore.specs.Single.{offset_of, taken_of, load_of, source_of, store_of, single_at, single_of};
 ghost use Rattle.loadstore.specs.Extra.{extra_offset_of, extra_loads_of, strh_of, ldrd_of, strd_of, extra_at, extra_of};
 ghost use Rattle.loadstore.specs.Laws.Loads.{widened_of, wide_load_of};
 
 use cpu::{Answer, Outcome};
-use memory::Found;
+use memory::{Outside, Width};
 
 // The offset of LDR and STR.
 fn find_offset(regs: &[u32; 16], op: u32, c: bool) -> u32
@@ -27,19 +27,13 @@ fn find_offset(regs: &[u32; 16], op: u32, c: bool) -> u32
     }
 }
 
-fn find_width(op: u32) -> u32
-    ensures { (result ≡ width_of op) × Width result }
-{
-    if op / 4194304 % 2 == 1 { 1 } else { 4 }
-}
-
 // What STR stores: r15 is A + 12.
 fn read_source(regs: &[u32; 16], op: u32) -> u32
     ensures { result ≡ source_of regs.now op }
 {
     let rd = op / 4096 % 16;
     if rd == 15 {
-        bits::wrapping_add(regs[15], 4)
+        regs[15].wrapping_add(4)
     } else {
         regs[rd as usize]
     }
@@ -71,10 +65,10 @@ fn store_one(
     mem: &mut [u8],
     moved: u32,
     at: u32,
-    width: u32,
+    width: Width,
     value: u32,
 ) -> Outcome
-    requires { (at + width ≤ length mem.old) × Width width }
+    requires { at + bytes_of width ≤ length mem.old }
     ensures { (result, regs.new, mem.new) ≡ store_of regs.old op mem.old moved at width value }
 {
     memory::store(mem, at, width, value);
@@ -85,8 +79,8 @@ fn store_one(
 fn move_single(regs: &mut [u32; 16], op: u32, mem: &mut [u8], moved: u32, at: u32) -> Outcome
     ensures { (result, regs.new, mem.new) ≡ single_at regs.old op mem.old moved at }
 {
-    let width = find_width(op);
-    if memory::reaches_out(mem.len(), at, width) {
+    let width = transfer::find_width(op);
+    if memory::reaches_out(mem.len(), at, width.bytes()) {
         cpu::stop_with(Answer::Bus(at))
     } else if op / 1048576 % 2 == 1 {
         load_one(regs, op, moved, memory::load(mem, at, width))
@@ -115,13 +109,12 @@ fn find_extra_offset(regs: &[u32; 16], op: u32) -> u32
     }
 }
 
-// A number of `width` bytes as a word, by its sign or not.
-fn widen(value: u32, width: u32, sign: bool) -> u32
-    requires { Width width }
+// A number as a word, by its sign or not.
+fn widen(value: u32, width: Width, sign: bool) -> u32
     ensures { result ≡ widened_of width sign value }
 {
     if sign {
-        bits::sign_extend(value, 8 * width)
+        bits::sign_extend(value, 8 * width.bytes())
     } else {
         value
     }
@@ -134,13 +127,12 @@ fn load_wide(
     mem: &mut [u8],
     moved: u32,
     at: u32,
-    width: u32,
+    width: Width,
     sign: bool,
 ) -> Outcome
-    requires { Width width }
     ensures { (result, regs.new, mem.new) ≡ wide_load_of regs.old op mem.old moved at width sign }
 {
-    if memory::reaches_out(mem.len(), at, width) {
+    if memory::reaches_out(mem.len(), at, width.bytes()) {
         cpu::stop_with(Answer::Bus(at))
     } else {
         let value = widen(memory::load(mem, at, width), width, sign);
@@ -154,11 +146,11 @@ fn load_extra(regs: &mut [u32; 16], op: u32, mem: &mut [u8], moved: u32, at: u32
     ensures { (result, regs.new, mem.new) ≡ extra_loads_of regs.old op mem.old moved at }
 {
     if op / 32 % 4 == 1 {
-        load_wide(regs, op, mem, moved, at, 2, false)
+        load_wide(regs, op, mem, moved, at, Width::Half, false)
     } else if op / 32 % 4 == 2 {
-        load_wide(regs, op, mem, moved, at, 1, true)
+        load_wide(regs, op, mem, moved, at, Width::Byte, true)
     } else {
-        load_wide(regs, op, mem, moved, at, 2, true)
+        load_wide(regs, op, mem, moved, at, Width::Half, true)
     }
 }
 
@@ -170,7 +162,7 @@ fn store_half(regs: &mut [u32; 16], op: u32, mem: &mut [u8], moved: u32, at: u32
         cpu::stop_with(Answer::Bus(at))
     } else {
         let value = regs[(op / 4096 % 16) as usize];
-        store_one(regs, op, mem, moved, at, 2, value)
+        store_one(regs, op, mem, moved, at, Width::Half, value)
     }
 }
 
@@ -179,16 +171,13 @@ fn load_pair(regs: &mut [u32; 16], op: u32, mem: &mut [u8], moved: u32, at: u32)
     requires { op / 4096 % 16 < 15 }
     ensures { (result, regs.new, mem.new) ≡ ldrd_of regs.old op mem.old moved at }
 {
-    let found = memory::find_outside(mem.len(), at, 4, 2);
-    match found {
-        Found::Inside => {
-            let low = memory::read32(mem, at);
-            let high = memory::read32(mem, bits::wrapping_add(at, 4));
+    match memory::load_pair(mem, at) {
+        Ok((low, high)) => {
             transfer::write_back(regs, op, moved);
             regs[(op / 4096 % 16) as usize] = low;
             cpu::land(regs, op / 4096 % 16 + 1, high)
         }
-        Found::Outside(a) => cpu::stop_with(Answer::Bus(a)),
+        Err(Outside(a)) => cpu::stop_with(Answer::Bus(a)),
     }
 }
 
@@ -197,19 +186,14 @@ fn store_pair(regs: &mut [u32; 16], op: u32, mem: &mut [u8], moved: u32, at: u32
     requires { op / 4096 % 16 < 15 }
     ensures { (result, regs.new, mem.new) ≡ strd_of regs.old op mem.old moved at }
 {
-    let found = memory::find_outside(mem.len(), at, 4, 2);
-    match found {
-        Found::Inside => {
-            memory::write32(mem, at, regs[(op / 4096 % 16) as usize]);
-            memory::write32(
-                mem,
-                bits::wrapping_add(at, 4),
-                regs[(op / 4096 % 16 + 1) as usize],
-            );
+    let low = regs[(op / 4096 % 16) as usize];
+    let high = regs[(op / 4096 % 16 + 1) as usize];
+    match memory::store_pair(mem, at, low, high) {
+        Ok(()) => {
             transfer::write_back(regs, op, moved);
             cpu::finish(regs)
         }
-        Found::Outside(a) => cpu::stop_with(Answer::Bus(a)),
+        Err(Outside(a)) => cpu::stop_with(Answer::Bus(a)),
     }
 }
 

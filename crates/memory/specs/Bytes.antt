@@ -1,7 +1,8 @@
 -- Numbers in memory, a list of bytes: little-endian, at any address, in 1, 2 or 4 bytes (document 01, section 1).
-use Rattle.std.specs.Prelude.{◌≡◌, List, ℕ, ◌+◌, ◌*◌, ◌^◌, ◌≤◌, ◌<◌, get_or, set, ◌==◌}
-use Rattle.bits.specs.Cases.{when◌then◌else◌}
+use Rattle.std.specs.Prelude.{List, ℕ, ◌+◌, ◌*◌, ◌^◌, get_or, set}
 use Rattle.bits.specs.Fields.{◌⟨◌‥◌⟩}
+use Rattle.memory.specs.declared.Width.{Width}
+use Rattle.memory.specs.declared.Width.TheVariants.{Byte, Half, Word}
 
 -- the number at an address: its lowest byte stands first
 abbrev pub byte_at : List ℕ → ℕ → ℕ
@@ -23,13 +24,19 @@ put_half l at v = set (set l at (v ⟨ 7 ‥ 0 ⟩)) (at + 1) (v ⟨ 15 ‥ 8 �
 unfoldable pub put_word : List ℕ → ℕ → ℕ → List ℕ
 put_word l at v = set (set (set (set l at (v ⟨ 7 ‥ 0 ⟩)) (at + 1) (v ⟨ 15 ‥ 8 ⟩)) (at + 2) (v ⟨ 23 ‥ 16 ⟩)) (at + 3) (v ⟨ 31 ‥ 24 ⟩)
 
--- a width in bytes: 1, 2 or 4
-abbrev pub Width : ℕ → Type 0
-Width w = (0 < w) × (w ≤ 4) × (w ≡ 3 → ⊥)
+-- how many bytes an access moves
+abbrev pub bytes_of : Width → ℕ
+bytes_of Byte = 1
+bytes_of Half = 2
+bytes_of Word = 4
 
--- the same by the width in bytes
-unfoldable pub read_of : List ℕ → ℕ → ℕ → ℕ
-read_of l at width = when width == 1 then byte_at l at else when width == 2 then half_at l at else word_at l at
+-- the same by the width
+abbrev pub read_of : List ℕ → ℕ → Width → ℕ
+read_of l at Byte = byte_at l at
+read_of l at Half = half_at l at
+read_of l at Word = word_at l at
 
-unfoldable pub written_of : List ℕ → ℕ → ℕ → ℕ → List ℕ
-written_of l at width v = when width == 1 then put_byte l at v else when width == 2 then put_half l at v else put_word l at v
+abbrev pub written_of : List ℕ → ℕ → Width → ℕ → List ℕ
+written_of l at Byte v = put_byte l at v
+written_of l at Half v = put_half l at v
+written_of l at Word v = put_word l at v

@@ -1,10 +1,9 @@
 -- Plans of accesses in transfer order, and the first of them that has a byte outside memory: answer 7 (document 01, sections 1 and 2).
-use Rattle.std.specs.Prelude.{Bool, List, [], ◌∷◌, ℕ, zero, suc, ◌+◌, ◌%◌, ◌^◌, length, get_or, drop}
+use Rattle.std.specs.Prelude.{Bool, Option, Some, None, Result, Ok, Err, List, [], ◌∷◌, ℕ, zero, suc, ◌+◌, ◌%◌, ◌^◌, length, get_or, drop}
 use Rattle.std.proofs.lemmas.List.Edits.{sets}
 use Rattle.bits.specs.Cases.{when◌then◌else◌, ◌<?◌}
 use Rattle.memory.specs.Bytes.{word_at, put_word}
-use Rattle.memory.specs.declared.Found.{Found}
-use Rattle.memory.specs.declared.Found.TheVariants.{Inside, Outside}
+use Rattle.memory.specs.declared.Outside.{Outside}
 
 -- the addresses of `count` accesses of `width` bytes, one behind the other; address sums wrap at 32 bits
 unfoldable pub accesses_of : ℕ → ℕ → ℕ → List ℕ
@@ -16,12 +15,12 @@ abbrev pub reaches_out : ℕ → ℕ → ℕ → Bool
 reaches_out len at width = len <? at + width
 
 -- the first of the accesses, in order, that has a byte outside
-unfoldable pub first_out : ℕ → ℕ → List ℕ → Found
-first_out len width [] = Inside
-first_out len width (a ∷ rest) = when reaches_out len a width then Outside a else first_out len width rest
+unfoldable pub first_out : ℕ → ℕ → List ℕ → Option ℕ
+first_out len width [] = None
+first_out len width (a ∷ rest) = when reaches_out len a width then Some a else first_out len width rest
 
--- the address of answer 7 for `count` accesses of `width` bytes from `at` on, or Inside
-abbrev pub outside_of : ℕ → ℕ → ℕ → ℕ → Found
+-- the address of answer 7 for `count` accesses of `width` bytes from `at` on, where there is one
+abbrev pub outside_of : ℕ → ℕ → ℕ → ℕ → Option ℕ
 outside_of len at width count = first_out len width (accesses_of at width count)
 
 -- the words at the addresses, in order
@@ -42,13 +41,30 @@ put_words l (a ∷ rest) values = put_words (put_word l a (get_or values 0 0)) r
 unfoldable pub stored_of : List ℕ → ℕ → ℕ → List ℕ → List ℕ
 stored_of l at count values = put_words l (accesses_of at 4 count) values
 
--- a plan is tested whole before anything moves: the answer, and what stands afterwards
-unfoldable pub performed_of : {A : Type 0} → Found → A → A → Found × A
-performed_of Inside before after = (Inside, after)
-performed_of (Outside a) before after = (Outside a, before)
+-- a plan is tested whole before anything moves: what is read, or the address of answer 7
+unfoldable pub within_of : {A : Type 0} → Option ℕ → A → Result A Outside
+within_of None x = Ok x
+within_of (Some a) x = Err (record { 0 = a })
 
-abbrev pub load_plan_of : List ℕ → ℕ → ℕ → List ℕ → Found × List ℕ
+-- what stands afterwards
+unfoldable pub kept_of : {A : Type 0} → Option ℕ → A → A → A
+kept_of None before after = after
+kept_of (Some a) before after = before
+
+-- the answer of a plan that was performed or refused, and what stands afterwards
+abbrev pub performed_of : {A : Type 0} → Option ℕ → A → A → Result Unit Outside × A
+performed_of found before after = (within_of found tt, kept_of found before after)
+
+abbrev pub load_plan_of : List ℕ → ℕ → ℕ → List ℕ → Result Unit Outside × List ℕ
 load_plan_of l at count values = performed_of (outside_of (length l) at 4 count) values (loaded_of l at count values)
 
-abbrev pub store_plan_of : List ℕ → ℕ → ℕ → List ℕ → Found × List ℕ
+abbrev pub store_plan_of : List ℕ → ℕ → ℕ → List ℕ → Result Unit Outside × List ℕ
 store_plan_of l at count values = performed_of (outside_of (length l) at 4 count) l (stored_of l at count values)
+
+-- two words; the second address wraps at 32 bits
+abbrev pub load_pair_of : List ℕ → ℕ → Result (ℕ × ℕ) Outside
+load_pair_of l at = within_of (outside_of (length l) at 4 2) (word_at l at, word_at l ((at + 4) % 2 ^ 32))
+
+abbrev pub store_pair_of : List ℕ → ℕ → ℕ → ℕ → Result Unit Outside × List ℕ
+store_pair_of l at low high =
+    performed_of (outside_of (length l) at 4 2) l (put_word (put_word l at low) ((at + 4) % 2 ^ 32) high)

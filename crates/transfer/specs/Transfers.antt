@@ -1,21 +1,25 @@
--- What every transfer shares: the base and its move, write-back, and the rule that nothing changes until every access is known to lie inside.
-use Rattle.std.specs.Prelude.{Bool, not, ◌||◌, List, ℕ, ◌+◌, ◌-◌, ◌%◌, ◌^◌, get_or, set}
+-- What every transfer shares: its width, the base and its move, write-back, and the rule that nothing changes until every access is known to lie inside.
+use Rattle.std.specs.Prelude.{Bool, not, ◌||◌, Option, Some, None, List, ℕ, ◌+◌, ◌-◌, ◌%◌, ◌^◌, get_or, set}
 use Rattle.bits.specs.Cases.{when◌then◌else◌}
 use Rattle.bits.specs.Fields.{◌⟨◌⟩, ◌⟨◌‥◌⟩}
-use Rattle.memory.specs.declared.Found.{Found}
-use Rattle.memory.specs.declared.Found.TheVariants.{Inside, Outside}
+use Rattle.memory.specs.declared.Width.{Width}
+use Rattle.memory.specs.declared.Width.TheVariants.{Byte, Word}
 use Rattle.cpu.specs.declared.Outcome.{Outcome}
 use Rattle.cpu.specs.declared.Answer.TheVariants.{Bus}
 use Rattle.cpu.specs.Outcomes.{stops}
 
 -- answer 7 with the first access outside, all else as before; or what the transfer does
-unfoldable pub guarded_of : Found → List ℕ → List ℕ → Outcome × List ℕ × List ℕ → Outcome × List ℕ × List ℕ
-guarded_of Inside regs l done = done
-guarded_of (Outside address) regs l done = (stops (Bus address), regs, l)
+unfoldable pub guarded_of : Option ℕ → List ℕ → List ℕ → Outcome × List ℕ × List ℕ → Outcome × List ℕ × List ℕ
+guarded_of None regs l done = done
+guarded_of (Some address) regs l done = (stops (Bus address), regs, l)
 
 -- a family that leaves memory alone
 abbrev pub beside : Outcome × List ℕ → List ℕ → Outcome × List ℕ × List ℕ
 beside x l = (x.0, x.1, l)
+
+-- B, bit 22: a byte, or a word
+unfoldable pub byte_or_word_of : ℕ → Width
+byte_or_word_of op = when op ⟨ 22 ⟩ then Byte else Word
 
 -- A5.2, A5.3: Rn, bits 19-16
 abbrev pub base_of : List ℕ → ℕ → ℕ

@@ -1,17 +1,29 @@
-// What every transfer shares: the base, its move, and write-back.
+// What every transfer shares: its width, the base, its move, and write-back.
 #![tactic(auto)]
 
 ghost use Rattle.std.specs.Prelude.{◌≡◌};
-ghost use Rattle.transfer.specs.Transfers.{moved_of, address_of, based_of};
+ghost use Rattle.transfer.specs.Transfers.{byte_or_word_of, moved_of, address_of, based_of};
+
+use memory::Width;
+
+pub fn find_width(op: u32) -> Width
+    ensures { result ≡ byte_or_word_of op }
+{
+    if op / 4194304 % 2 == 1 {
+        Width::Byte
+    } else {
+        Width::Word
+    }
+}
 
 pub fn move_base(regs: &[u32; 16], op: u32, offset: u32) -> u32
     ensures { result ≡ moved_of regs.now op offset }
 {
     let base = regs[(op / 65536 % 16) as usize];
     if op / 8388608 % 2 == 1 {
-        bits::wrapping_add(base, offset)
+        base.wrapping_add(offset)
     } else {
-        bits::wrapping_sub(base, offset)
+        base.wrapping_sub(offset)
     }
 }
 
@@ -31,5 +43,5 @@ pub fn write_back(regs: &mut [u32; 16], op: u32, moved: u32)
     let on = !(op / 16777216 % 2 == 1) | (op / 2097152 % 2 == 1);
     if on {
         regs[(op / 65536 % 16) as usize] = moved;
-    } else {}
+    }
 }

@@ -1,31 +1,25 @@
 use Rattle.bits.specs.Cases.{when◌then◌else◌}
-use Rattle.memory.specs.Laws.Plans.{inside_two}
+use Rattle.memory.specs.Laws.Plans.{within_ok, within_err}
 use Rattle.exclusive.specs.Exclusive.{ldrexd_of}
 use Rattle.transfer.specs.Laws.Guards.{guarded_inside, guarded_outside, beside_is}
-use Rattle.std.proofs.Common.{sym, ◌∙◌, ne_eqb}
+use Rattle.std.proofs.Common.{ℕ, ap, sym, ◌∙◌, ne_eqb}
 use Rattle.exclusive.proofs.load_pair.Goals as goal
-
-pub read32-requires : goal.read32-requires
-read32-requires c = (inside_two _ _ _ (sym c.find_outside-found.ensures ∙ c.in-Inside.is)).0
-
-pub read32-second-requires : goal.read32-second-requires
-read32-second-requires c =
-    rw c.wrapping_add.ensures (inside_two _ _ _ (sym c.find_outside-found.ensures ∙ c.in-Inside.is)).1
 
 pub returns-then-rd-eq15 : goal.returns-then-rd-eq15
 unfolding ldrexd_of when◌then◌else◌
 returns-then-rd-eq15 c = rw c.if-rd-eq15.true (beside_is c.refuse.ensures)
 
-pub returns-in-Inside : goal.returns-in-Inside
+pub returns-in-Ok : goal.returns-in-Ok
 unfolding ldrexd_of when◌then◌else◌
-returns-in-Inside c =
+returns-in-Ok c =
     let a = c.args in
-    rw (ne_eqb _ _ c.if-rd-eq15.false, ← c.wrapping_add.ensures, ← c.read32-second.ensures, ← c.read32.ensures)
-    (beside_is c.give_tagged.ensures ∙ sym (guarded_inside a.regs.now a.mem.now _ _ (sym c.find_outside-found.ensures ∙ c.in-Inside.is)))
+    let w = within_ok _ _ _ (sym c.load_pair.ensures ∙ c.in-Ok.is) in
+    rw (ne_eqb _ _ c.if-rd-eq15.false, ap (λ (p : ℕ × ℕ). p.0) w.1, ap (λ (p : ℕ × ℕ). p.1) w.1)
+    (beside_is c.give_tagged.ensures ∙ sym (guarded_inside a.regs.now a.mem.now _ _ w.0))
 
-pub returns-in-Outside : goal.returns-in-Outside
+pub returns-in-Err : goal.returns-in-Err
 unfolding ldrexd_of when◌then◌else◌
-returns-in-Outside c =
+returns-in-Err c =
     let a = c.args in
     rw (ne_eqb _ _ c.if-rd-eq15.false, c.stop_with.ensures)
-    (sym (guarded_outside a.regs.now a.mem.now _ _ _ (sym c.find_outside-found.ensures ∙ c.in-Outside.is)))
+    (sym (guarded_outside a.regs.now a.mem.now _ _ _ (within_err _ _ _ (sym c.load_pair.ensures ∙ c.in-Err.is))))

@@ -1,16 +1,15 @@
 use Rattle.bits.specs.Cases.{cases}
 use Rattle.exclusive.specs.Exclusive.{width_of}
-use Rattle.std.proofs.Common.{rules}
 use Rattle.exclusive.proofs.size_width.Goals as goal
 
-pub returns-then-op-eq2 : goal.returns-then-op-eq2
+pub returns-in-2 : goal.returns-in-2
 unfolding width_of
-returns-then-op-eq2 c = (search cases, search rules)
+returns-in-2 c = search cases
 
-pub returns-then-op-eq3 : goal.returns-then-op-eq3
+pub returns-in-3 : goal.returns-in-3
 unfolding width_of
-returns-then-op-eq3 c = (search cases, search rules)
+returns-in-3 c = search cases
 
-pub returns-else-op-eq3 : goal.returns-else-op-eq3
+pub returns-in_default : goal.returns-in_default
 unfolding width_of
-returns-else-op-eq3 c = (search cases, search rules)
+returns-in_default c = search cases

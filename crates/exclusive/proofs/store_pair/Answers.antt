@@ -1,37 +1,29 @@
 use Rattle.bits.specs.Cases.{when◌then◌else◌}
-use Rattle.memory.specs.Laws.Bytes.{length_word}
-use Rattle.memory.specs.Laws.Plans.{inside_two}
+use Rattle.memory.specs.Laws.Plans.{performed_none, performed_some, performed_inside, performed_outside}
 use Rattle.exclusive.specs.Exclusive.{strexd_of}
 use Rattle.transfer.specs.Laws.Guards.{guarded_inside, guarded_outside, beside_is}
 use Rattle.std.proofs.Common.{sym, ◌∙◌, ne_eqb}
 use Rattle.exclusive.proofs.store_pair.Goals as goal
 
-pub write32-requires : goal.write32-requires
-write32-requires c = (inside_two _ _ _ (sym c.find_outside-found.ensures ∙ c.in-Inside.is)).0
-
-pub write32-requires-in-Inside : goal.write32-requires-in-Inside
-write32-requires-in-Inside c =
-    rw (c.wrapping_add.ensures, c.write32.ensures, length_word) (inside_two _ _ _ (sym c.find_outside-found.ensures ∙ c.in-Inside.is)).1
-
 pub returns-then-rm-eq15 : goal.returns-then-rm-eq15
 unfolding strexd_of when◌then◌else◌
 returns-then-rm-eq15 c = rw c.if-rm-eq15.true (beside_is c.refuse.ensures)
 
-pub returns-in-Inside : goal.returns-in-Inside
+pub returns-in-Ok : goal.returns-in-Ok
 unfolding strexd_of when◌then◌else◌
-returns-in-Inside c =
+returns-in-Ok c =
     let a = c.args in
-    rw (ne_eqb _ _ c.if-rm-eq15.false, c.if-succeeds.true, c.write32-in-Inside.ensures, c.wrapping_add.ensures, c.write32.ensures)
-    (beside_is c.succeed.ensures ∙ sym (guarded_inside a.regs.now a.mem.now _ _ (sym c.find_outside-found.ensures ∙ c.in-Inside.is)))
+    rw (ne_eqb _ _ c.if-rm-eq15.false, sym c.eq.ensures ∙ c.if-eq.true, performed_inside _ _ _ c.store_pair.ensures c.in-Ok.is)
+    (beside_is c.succeed.ensures ∙ sym (guarded_inside a.regs.now a.mem.now _ _ (performed_none _ _ _ c.store_pair.ensures c.in-Ok.is)))
 
-pub returns-in-Outside : goal.returns-in-Outside
+pub returns-in-Err : goal.returns-in-Err
 unfolding strexd_of when◌then◌else◌
-returns-in-Outside c =
+returns-in-Err c =
     let a = c.args in
-    rw (ne_eqb _ _ c.if-rm-eq15.false, c.if-succeeds.true, c.stop_with.ensures)
-    (sym (guarded_outside a.regs.now a.mem.now _ _ _ (sym c.find_outside-found.ensures ∙ c.in-Outside.is)))
+    rw (ne_eqb _ _ c.if-rm-eq15.false, sym c.eq.ensures ∙ c.if-eq.true, performed_outside _ _ _ c.store_pair.ensures _ c.in-Err.is, c.stop_with.ensures)
+    (sym (guarded_outside a.regs.now a.mem.now _ _ _ (performed_some _ _ _ c.store_pair.ensures _ c.in-Err.is)))
 
-pub returns-else-succeeds : goal.returns-else-succeeds
+pub returns-else-eq : goal.returns-else-eq
 unfolding strexd_of when◌then◌else◌
-returns-else-succeeds c =
-    rw (ne_eqb _ _ c.if-rm-eq15.false, c.if-succeeds.false) (beside_is c.fail.ensures)
+returns-else-eq c =
+    rw (ne_eqb _ _ c.if-rm-eq15.false, sym c.eq.ensures ∙ c.if-eq.false) (beside_is c.fail.ensures)

@@ -7,12 +7,12 @@ pub returns-then-reaches_out : goal.returns-then-reaches_out
 unfolding swap_of
 returns-then-reaches_out c =
     let a = c.args in
-    rw (c.stop_with.ensures, ← c.swap_width-width.ensures.0)
-    (sym (guard_shut _ _ _ a.regs.now a.mem.now _ (sym c.reaches_out.ensures ∙ c.if-reaches_out.true)))
+    rw (c.stop_with.ensures, ← c.find_width-width.ensures)
+    (sym (guard_shut _ _ _ a.regs.now a.mem.now _ (rw c.bytes.ensures at (sym c.reaches_out.ensures ∙ c.if-reaches_out.true))))
 
 pub returns-else-reaches_out : goal.returns-else-reaches_out
 unfolding swap_of
 returns-else-reaches_out c =
     let a = c.args in
-    rw (← c.swap_width-width.ensures.0, c.store.ensures, ← c.load-old.ensures)
-    (beside_is c.land.ensures ∙ sym (guard_open _ _ _ a.regs.now a.mem.now _ (sym c.reaches_out.ensures ∙ c.if-reaches_out.false)))
+    rw (← c.find_width-width.ensures, c.store.ensures, ← c.load-old.ensures)
+    (beside_is c.land.ensures ∙ sym (guard_open _ _ _ a.regs.now a.mem.now _ (rw c.bytes.ensures at (sym c.reaches_out.ensures ∙ c.if-reaches_out.false))))

@@ -1,5 +1,5 @@
 -- A store exclusive that fails makes no access and keeps the tag.
-use Rattle.std.specs.Prelude.{◌≡◌, refl, Bool, false, List, ◌⊎◌, ℕ}
+use Rattle.std.specs.Prelude.{◌≡◌, refl, false, Option, List, ◌⊎◌, ℕ}
 use Rattle.std.proofs.Common.{inl, inr, ⊎_elim, arith}
 use Rattle.bits.specs.Cases.{if_no, if_both}
 use Rattle.bits.specs.Fields.{◌⟨◌⟩}
@@ -37,15 +37,15 @@ module _ (regs : List ℕ) (op : ℕ) (l : List ℕ) where
         access = λ address e. let k = rw landed_nothing at e in let z : ◌≡◌ {A = ℕ} 0 1 = cc in omega arith;
       }
 
-  module _ (present : Bool) (tag : ℕ) (fails : succeeds regs op present tag ≡ false) where
-    failed_one : Failed l (strex_of regs op present tag l)
+  module _ (tag : Option ℕ) (fails : succeeds regs op tag ≡ false) where
+    failed_one : Failed l (strex_of regs op tag l)
     unfolding strex_of
     failed_one = rw (if_no _ _ _ fails) failed_is
 
-    failed_pair : Failed l (strexd_of regs op present tag l)
+    failed_pair : Failed l (strexd_of regs op tag l)
     unfolding strexd_of
-    failed_pair = rw (if_no (succeeds regs op present tag) _ _ fails) (if_both (Failed l) _ failed_undefined failed_is)
+    failed_pair = rw (if_no (succeeds regs op tag) _ _ fails) (if_both (Failed l) _ failed_undefined failed_is)
 
-    pub failed_store : op ⟨ 20 ⟩ ≡ false → Failed l (exclusive_of regs op present tag l)
+    pub failed_store : op ⟨ 20 ⟩ ≡ false → Failed l (exclusive_of regs op tag l)
     unfolding exclusive_of
     failed_store store = rw (if_no _ _ _ store) (if_both (Failed l) _ failed_pair failed_one)

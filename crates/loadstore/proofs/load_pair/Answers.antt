@@ -1,24 +1,15 @@
-use Rattle.memory.specs.Laws.Plans.{inside_two}
+use Rattle.memory.specs.Laws.Plans.{within_ok, within_err}
 use Rattle.transfer.specs.Transfers.{guarded_of}
 use Rattle.transfer.specs.Laws.Guards.{beside_is}
-use Rattle.std.proofs.Common.{sym, ◌∙◌, arith}
+use Rattle.std.proofs.Common.{ℕ, ap, sym, ◌∙◌}
 use Rattle.loadstore.proofs.load_pair.Goals as goal
 
-pub read32-low-requires : goal.read32-low-requires
-read32-low-requires c = (inside_two _ _ _ (sym c.find_outside-found.ensures ∙ c.in-Inside.is)).0
-
-pub read32-high-requires : goal.read32-high-requires
-read32-high-requires c =
-    let i = inside_two _ _ _ (sym c.find_outside-found.ensures ∙ c.in-Inside.is) in
-    omega (arith, i.1, c.wrapping_add.ensures)
-
-pub returns-in-Inside : goal.returns-in-Inside
+pub returns-in-Ok : goal.returns-in-Ok
 unfolding guarded_of
-returns-in-Inside c =
-    rw (← c.find_outside-found.ensures, c.in-Inside.is, ← c.wrapping_add.ensures, ← c.read32-high.ensures, ← c.read32-low.ensures, ← c.write_back.ensures)
-    (beside_is c.land.ensures)
+returns-in-Ok c =
+    let w = within_ok _ _ _ (sym c.load_pair.ensures ∙ c.in-Ok.is) in
+    rw (w.0, ap (λ (p : ℕ × ℕ). p.0) w.1, ap (λ (p : ℕ × ℕ). p.1) w.1, ← c.write_back.ensures) (beside_is c.land.ensures)
 
-pub returns-in-Outside : goal.returns-in-Outside
+pub returns-in-Err : goal.returns-in-Err
 unfolding guarded_of
-returns-in-Outside c =
-    rw (← c.find_outside-found.ensures, c.in-Outside.is, c.stop_with.ensures)
+returns-in-Err c = rw (within_err _ _ _ (sym c.load_pair.ensures ∙ c.in-Err.is), c.stop_with.ensures)

@@ -1,25 +1,15 @@
-use Rattle.memory.specs.Laws.Plans.{inside_two}
+use Rattle.memory.specs.Laws.Plans.{performed_none, performed_some, performed_inside, performed_outside}
 use Rattle.transfer.specs.Transfers.{guarded_of}
 use Rattle.transfer.specs.Laws.Guards.{beside_is}
-use Rattle.std.proofs.Common.{sym, ◌∙◌, arith}
 use Rattle.loadstore.proofs.store_pair.Goals as goal
 
-pub write32-requires : goal.write32-requires
-write32-requires c =
-    (inside_two _ _ _ (sym c.find_outside-found.ensures ∙ c.in-Inside.is)).0
-
-pub write32-requires-in-Inside : goal.write32-requires-in-Inside
-write32-requires-in-Inside c =
-    let i = inside_two _ _ _ (sym c.find_outside-found.ensures ∙ c.in-Inside.is) in
-    omega (arith, i.1, c.wrapping_add.ensures, c.write32.auto.mem)
-
-pub returns-in-Inside : goal.returns-in-Inside
+pub returns-in-Ok : goal.returns-in-Ok
 unfolding guarded_of
-returns-in-Inside c =
-    rw (← c.find_outside-found.ensures, c.in-Inside.is, ← c.write32.ensures, ← c.wrapping_add.ensures, ← c.write32-in-Inside.ensures, ← c.write_back.ensures)
+returns-in-Ok c =
+    rw (performed_none _ _ _ c.store_pair.ensures c.in-Ok.is, performed_inside _ _ _ c.store_pair.ensures c.in-Ok.is, ← c.write_back.ensures)
     (beside_is c.finish.ensures)
 
-pub returns-in-Outside : goal.returns-in-Outside
+pub returns-in-Err : goal.returns-in-Err
 unfolding guarded_of
-returns-in-Outside c =
-    rw (← c.find_outside-found.ensures, c.in-Outside.is, c.stop_with.ensures)
+returns-in-Err c =
+    rw (performed_some _ _ _ c.store_pair.ensures _ c.in-Err.is, performed_outside _ _ _ c.store_pair.ensures _ c.in-Err.is, c.stop_with.ensures)

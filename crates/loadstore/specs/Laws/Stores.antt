@@ -5,12 +5,13 @@ use Rattle.std.proofs.Common.{◌∙◌, arith}
 use Rattle.std.proofs.Math.Logic.{inl, inr, ⊎_elim}
 use Rattle.bits.specs.Cases.{when◌then◌else◌, if_yes, if_both}
 use Rattle.bits.specs.Fields.{◌⟨◌⟩}
-use Rattle.memory.specs.Bytes.{Width, put_word}
-use Rattle.memory.specs.Laws.Bytes.{Clear, byte_width, half_width, word_width, byte_untouched, byte_word}
+use Rattle.memory.specs.declared.Width.TheVariants.{Half}
+use Rattle.memory.specs.Bytes.{bytes_of, put_word}
+use Rattle.memory.specs.Laws.Bytes.{Clear, byte_untouched, byte_word}
 use Rattle.cpu.specs.declared.Outcome.{Outcome}
-use Rattle.transfer.specs.Transfers.{moved_of, address_of}
+use Rattle.transfer.specs.Transfers.{byte_or_word_of, moved_of, address_of}
 use Rattle.transfer.specs.Laws.Guards.{Untouched, guarded_both, guarded_untouched}
-use Rattle.loadstore.specs.Single.{offset_of, width_of, rd_of, single_at, single_of}
+use Rattle.loadstore.specs.Single.{offset_of, rd_of, single_at, single_of}
 use Rattle.loadstore.specs.Extra.{next_of, extra_offset_of, extra_load_of, extra_loads_of, strh_of, ldrd_of, strd_of, extra_at, extra_of}
 
 -- the address of the first access
@@ -20,20 +21,16 @@ single_address_of regs op c = address_of regs op (moved_of regs op (offset_of re
 abbrev pub extra_address_of : List ℕ → ℕ → ℕ
 extra_address_of regs op = address_of regs op (moved_of regs op (extra_offset_of regs op))
 
-width_is : (op : ℕ) → Width (width_of op)
-unfolding width_of
-width_is op = if_both Width _ byte_width word_width
-
 -- memory is what it was
 abbrev Kept : List ℕ → Outcome × List ℕ × List ℕ → Type 0
 Kept l x = x.2 ≡ l
 
 module _ (regs : List ℕ) (op : ℕ) (l : List ℕ) (moved address : ℕ) where
-  same_single : (b : ℕ) → Clear address (width_of op) b → Untouched l b (single_at regs op l moved address)
+  same_single : (b : ℕ) → Clear address (bytes_of (byte_or_word_of op)) b → Untouched l b (single_at regs op l moved address)
   unfolding single_at
   same_single b h =
       guarded_untouched _ regs l b _
-      (if_both (Untouched l b) _ refl (byte_untouched l address (width_of op) _ (width_is op) b h))
+      (if_both (Untouched l b) _ refl (byte_untouched l address (byte_or_word_of op) _ b h))
 
   kept_single : op ⟨ 20 ⟩ ≡ true → (single_at regs op l moved address).2 ≡ l
   unfolding single_at when◌then◌else◌
@@ -47,7 +44,7 @@ module _ (regs : List ℕ) (op : ℕ) (l : List ℕ) (moved address : ℕ) where
 
   pub strh_untouched : (b : ℕ) → Clear address 2 b → get_or (strh_of regs op l moved address).2 b 0 ≡ get_or l b 0
   strh_untouched b h =
-      guarded_untouched _ regs l b _ (byte_untouched l address 2 _ half_width b h)
+      guarded_untouched _ regs l b _ (byte_untouched l address Half _ b h)
 
   pub strd_untouched : (b : ℕ) → Clear address 4 b → Clear (next_of address) 4 b → get_or (strd_of regs op l moved address).2 b 0 ≡ get_or l b 0
   strd_untouched b h k =
@@ -71,7 +68,7 @@ module _ (regs : List ℕ) (op : ℕ) (l : List ℕ) (moved address : ℕ) where
   kept_extra e =
       if_both (Kept l) _ refl (rw (if_yes _ _ _ e) loads_untouched)
 
-pub single_untouched : (regs : List ℕ) (op : ℕ) (c : Bool) (l : List ℕ) (b : ℕ) → Clear (single_address_of regs op c) (width_of op) b
+pub single_untouched : (regs : List ℕ) (op : ℕ) (c : Bool) (l : List ℕ) (b : ℕ) → Clear (single_address_of regs op c) (bytes_of (byte_or_word_of op)) b
     → get_or (single_of regs op c l).2 b 0 ≡ get_or l b 0
 unfolding single_of
 single_untouched regs op c l = same_single regs op l _ _

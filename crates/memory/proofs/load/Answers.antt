@@ -1,15 +1,7 @@
-use Rattle.bits.specs.Cases.{cases}
-use Rattle.memory.specs.Bytes.{read_of}
+use Rattle.memory.specs.Bytes.{half_at}
+use Rattle.std.proofs.Common.{rules}
 use Rattle.memory.proofs.load.Goals as goal
 
-pub returns-then-width-eq1 : goal.returns-then-width-eq1
-unfolding read_of
-returns-then-width-eq1 c = search cases
-
-pub returns-then-width-eq2 : goal.returns-then-width-eq2
-unfolding read_of
-returns-then-width-eq2 c = search cases
-
-pub returns-else-width-eq2 : goal.returns-else-width-eq2
-unfolding read_of
-returns-else-width-eq2 c = search cases
+pub returns-in-Half : goal.returns-in-Half
+unfolding half_at
+returns-in-Half c = search rules

@@ -1,9 +1,5 @@
-use Rattle.std.proofs.Common.{◌-◌}
 use Rattle.memory.specs.Laws.Plans.{Loading}
 use Rattle.memory.proofs.load_words.Given as goal
 
-abbrev pub invariant-loop-i : goal.invariant-loop-i
-invariant-loop-i l = Loading l.mem l.at l.count l.initial.values l.values l.a l.i
-
-abbrev pub decreases-loop-i : goal.decreases-loop-i
-decreases-loop-i l = l.count - l.i
+abbrev pub invariant-loop-value : goal.invariant-loop-value
+invariant-loop-value l = Loading l.mem l.at l.count l.initial.value-items l.value-items l.a l.value-index

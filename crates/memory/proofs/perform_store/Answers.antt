@@ -1,11 +1,19 @@
-use Rattle.memory.specs.Plans.{performed_of}
+use Rattle.memory.specs.Plans.{within_of, kept_of}
+use Rattle.memory.specs.Laws.Plans.{within_ok, within_err}
+use Rattle.std.proofs.lemmas.Result.{err_from_is_err_and}
+use Rattle.std.proofs.Common.{sym, ◌∙◌}
 use Rattle.memory.proofs.perform_store.Goals as goal
 
-pub returns-in-Inside : goal.returns-in-Inside
-unfolding performed_of
-returns-in-Inside c =
-    rw (← c.find_outside-found.ensures, c.in-Inside.is, c.store_words.ensures)
+pub store_words-requires : goal.store_words-requires
+store_words-requires c = ((within_ok _ _ _ (sym c.check_words.ensures ∙ c.in_ok-check_words.was)).0, c.requires)
 
-pub returns-in-Outside : goal.returns-in-Outside
-unfolding performed_of
-returns-in-Outside c = rw (← c.find_outside-found.ensures, c.in-Outside.is)
+pub returns-in_err-check_words : goal.returns-in_err-check_words
+unfolding within_of kept_of
+returns-in_err-check_words c =
+    let p = err_from_is_err_and c.from_residual.result c.from_residual.ensures.1 in
+    rw (within_err _ _ _ (sym c.check_words.ensures ∙ c.in_err-check_words.was), p.1, p.2)
+
+pub returns : goal.returns
+unfolding within_of kept_of
+returns c =
+    rw ((within_ok _ _ _ (sym c.check_words.ensures ∙ c.in_ok-check_words.was)).0, c.store_words.ensures)

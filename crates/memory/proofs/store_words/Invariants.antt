@@ -1,9 +1,5 @@
-use Rattle.std.proofs.Common.{◌-◌, ◌≡◌, length}
 use Rattle.memory.specs.Laws.Plans.{Storing}
 use Rattle.memory.proofs.store_words.Given as goal
 
-abbrev pub invariant-loop-i : goal.invariant-loop-i
-invariant-loop-i l = Storing l.initial.mem l.at l.count l.values l.mem l.a l.i × (length l.mem ≡ length l.initial.mem)
-
-abbrev pub decreases-loop-i : goal.decreases-loop-i
-decreases-loop-i l = l.count - l.i
+abbrev pub invariant-loop-value : goal.invariant-loop-value
+invariant-loop-value l = Storing l.initial.mem l.at l.count l.values l.mem l.a l.value-index

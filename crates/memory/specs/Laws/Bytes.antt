@@ -4,9 +4,10 @@ use Rattle.std.proofs.Common.{◌∙◌, inl, inr, ⊎_elim, arith, pow-add, len
 use Rattle.std.proofs.lemmas.Nat.{mod-pow-add}
 use Rattle.std.proofs.Math.Seq.{set_out}
 use Rattle.std.proofs.lemmas.Bool.{eqb-false}
-use Rattle.bits.specs.Cases.{when◌then◌else◌}
 use Rattle.bits.specs.Laws.Order.{split}
-use Rattle.memory.specs.Bytes.{half_at, word_at, put_half, put_word, Width, read_of, written_of}
+use Rattle.memory.specs.declared.Width.{Width}
+use Rattle.memory.specs.declared.Width.TheVariants.{Byte, Half, Word}
+use Rattle.memory.specs.Bytes.{half_at, word_at, put_half, put_word, bytes_of, read_of, written_of}
 
 -- the number in n bytes and the n low bytes of a number, for any n
 unfoldable number_at : List ℕ → ℕ → ℕ → ℕ
@@ -79,82 +80,64 @@ number_lt l at (suc n) b =
     let e : 8 * suc n ≡ 8 * n + 8 = omega arith in
     rw (e, pow-add 2 (8 * n) 8) (omega (arith, b at, number_lt l (at + 1) n b))
 
-pub byte_width : Width 1
-byte_width = (omega arith, omega arith, λ e. omega arith)
-
-pub half_width : Width 2
-half_width = (omega arith, omega arith, λ e. omega arith)
-
-pub word_width : Width 4
-word_width = (omega arith, omega arith, λ e. omega arith)
-
--- the three widths are instances
-by_width : (P : ℕ → Type 0) → P 1 → P 2 → P 4 → (w : ℕ) → Width w → P w
-by_width P a b d zero h = absurd (omega arith)
-by_width P a b d (suc zero) h = a
-by_width P a b d (suc (suc zero)) h = b
-by_width P a b d (suc (suc (suc zero))) h = absurd (h.2 refl)
-by_width P a b d (suc (suc (suc (suc zero)))) h = d
-by_width P a b d (suc (suc (suc (suc (suc n))))) h = absurd (omega arith)
-
 second : (at : ℕ) → at + 1 + 1 ≡ at + 2
 second at = omega arith
 
 third : (at : ℕ) → at + 2 + 1 ≡ at + 3
 third at = omega arith
 
-read_is : (l : List ℕ) (at w : ℕ) → Width w → read_of l at w ≡ number_at l at w
-unfolding read_of when◌then◌else◌ half_at word_at number_at
-read_is l at w h = by_width (λ w. read_of l at w ≡ number_at l at w) (omega arith) (omega arith) (rw (second at, third at) (omega arith)) w h
+-- the three widths are instances
+read_is : (l : List ℕ) (at : ℕ) (w : Width) → read_of l at w ≡ number_at l at (bytes_of w)
+unfolding half_at word_at number_at
+read_is l at Byte = omega arith
+read_is l at Half = omega arith
+read_is l at Word = rw (second at, third at) (omega arith)
 
-written_is : (l : List ℕ) (at w v : ℕ) → Width w → written_of l at w v ≡ put_number l at w v
-unfolding written_of when◌then◌else◌ put_half put_word put_number
-written_is l at w v h =
+written_is : (l : List ℕ) (at : ℕ) (w : Width) (v : ℕ) → written_of l at w v ≡ put_number l at (bytes_of w) v
+unfolding put_half put_word put_number
+written_is l at Byte v = refl
+written_is l at Half v = refl
+written_is l at Word v =
     let e : v / 2 ^ 8 / 2 ^ 8 ≡ v / 2 ^ 16 = omega arith in
     let f : v / 2 ^ 16 / 2 ^ 8 ≡ v / 2 ^ 24 = omega arith in
-    by_width (λ w. written_of l at w v ≡ put_number l at w v) refl refl (rw (second at, third at, e, f)) w h
+    rw (second at, third at, e, f)
 
-module _ (l : List ℕ) (at w v : ℕ) (h : Width w) where
+module _ (l : List ℕ) (at : ℕ) (w : Width) (v : ℕ) where
   pub length_written : length (written_of l at w v) ≡ length l
-  length_written = rw (written_is l at w v h) (length_number l at w v)
+  length_written = rw (written_is l at w v) (length_number l at (bytes_of w) v)
 
-  pub read_written : at + w ≤ length l → read_of (written_of l at w v) at w ≡ v % 2 ^ (8 * w)
-  read_written k = rw (read_is (written_of l at w v) at w h, written_is l at w v h) (number_same l at w v k)
+  pub read_written : at + bytes_of w ≤ length l → read_of (written_of l at w v) at w ≡ v % 2 ^ (8 * bytes_of w)
+  read_written k = rw (read_is (written_of l at w v) at w, written_is l at w v) (number_same l at (bytes_of w) v k)
 
-  pub byte_untouched : (b : ℕ) → Clear at w b → get_or (written_of l at w v) b 0 ≡ get_or l b 0
-  byte_untouched b k = rw (written_is l at w v h) (byte_number l at w v b k)
+  pub byte_untouched : (b : ℕ) → Clear at (bytes_of w) b → get_or (written_of l at w v) b 0 ≡ get_or l b 0
+  byte_untouched b k = rw (written_is l at w v) (byte_number l at (bytes_of w) v b k)
 
-  pub read_untouched : (b u : ℕ) → Width u → (b + u ≤ at) ⊎ (at + w ≤ b) → read_of (written_of l at w v) b u ≡ read_of l b u
-  read_untouched b u g k = rw (read_is (written_of l at w v) b u g, read_is l b u g, written_is l at w v h) (number_away l at w v b u k)
+  pub read_untouched : (b : ℕ) (u : Width) → (b + bytes_of u ≤ at) ⊎ (at + bytes_of w ≤ b) → read_of (written_of l at w v) b u ≡ read_of l b u
+  read_untouched b u k =
+      rw (read_is (written_of l at w v) b u, read_is l b u, written_is l at w v) (number_away l at (bytes_of w) v b (bytes_of u) k)
 
   pub bytes_written : Bytes l → Bytes (written_of l at w v)
-  bytes_written b = rw (written_is l at w v h) (bytes_number l at w v b)
+  bytes_written b = rw (written_is l at w v) (bytes_number l at (bytes_of w) v b)
 
-pub read_lt : (l : List ℕ) (at w : ℕ) → Width w → Bytes l → read_of l at w < 2 ^ (8 * w)
-read_lt l at w h b = rw (read_is l at w h) (number_lt l at w b)
+pub read_lt : (l : List ℕ) (at : ℕ) (w : Width) → Bytes l → read_of l at w < 2 ^ (8 * bytes_of w)
+read_lt l at w b = rw (read_is l at w) (number_lt l at (bytes_of w) b)
 
 -- words, with which transfers of several go
 module _ (l : List ℕ) (at v : ℕ) where
   pub length_word : length (put_word l at v) ≡ length l
-  unfolding written_of when◌then◌else◌
-  length_word = length_written l at 4 v word_width
+  length_word = length_written l at Word v
 
   pub byte_word : (b : ℕ) → Clear at 4 b → get_or (put_word l at v) b 0 ≡ get_or l b 0
-  unfolding written_of when◌then◌else◌
-  byte_word = byte_untouched l at 4 v word_width
+  byte_word = byte_untouched l at Word v
 
   pub bytes_word : Bytes l → Bytes (put_word l at v)
-  unfolding written_of when◌then◌else◌
-  bytes_word = bytes_written l at 4 v word_width
+  bytes_word = bytes_written l at Word v
 
   pub word_same : at + 4 ≤ length l → word_at (put_word l at v) at ≡ v % 2 ^ 32
-  unfolding read_of written_of when◌then◌else◌
-  word_same = read_written l at 4 v word_width
+  word_same = read_written l at Word v
 
   pub word_away : (b : ℕ) → (b + 4 ≤ at) ⊎ (at + 4 ≤ b) → word_at (put_word l at v) b ≡ word_at l b
-  unfolding read_of written_of when◌then◌else◌
-  word_away b = read_untouched l at 4 v word_width b 4 word_width
+  word_away b = read_untouched l at Word v b Word
 
 pub word_lt : (l : List ℕ) (at : ℕ) → Bytes l → word_at l at < 2 ^ 32
-unfolding read_of when◌then◌else◌
-word_lt l at = read_lt l at 4 word_width
+word_lt l at = read_lt l at Word

@@ -4,8 +4,8 @@ use Rattle.transfer.proofs.move_base.Goals as goal
 
 pub returns-then-op-eq1 : goal.returns-then-op-eq1
 unfolding moved_of
-returns-then-op-eq1 c = search (cases, c.wrapping_add.ensures)
+returns-then-op-eq1 c = search cases
 
 pub returns-else-op-eq1 : goal.returns-else-op-eq1
 unfolding moved_of
-returns-else-op-eq1 c = search (cases, c.wrapping_sub.ensures)
+returns-else-op-eq1 c = search cases

@@ -1,10 +1,8 @@
 -- The guard of a transfer as the code tests it, and memory beside a family that leaves it alone.
-use Rattle.std.specs.Prelude.{◌≡◌, refl, true, false, List, ℕ, get_or}
+use Rattle.std.specs.Prelude.{◌≡◌, refl, true, false, Option, Some, None, List, ℕ, get_or}
 use Rattle.std.proofs.Common.{ap}
 use Rattle.bits.specs.Cases.{when◌then◌else◌}
 use Rattle.memory.specs.Plans.{reaches_out, outside_of}
-use Rattle.memory.specs.declared.Found.{Found}
-use Rattle.memory.specs.declared.Found.TheVariants.{Inside, Outside}
 use Rattle.memory.specs.Laws.Plans.{out_one}
 use Rattle.cpu.specs.declared.Outcome.{Outcome}
 use Rattle.cpu.specs.declared.Answer.TheVariants.{Bus}
@@ -12,25 +10,25 @@ use Rattle.cpu.specs.Outcomes.{stops}
 use Rattle.transfer.specs.Transfers.{guarded_of, beside}
 
 -- what holds of every answer 7, and of what the transfer does, holds of the guarded transfer
-pub guarded_both : (P : Outcome × List ℕ × List ℕ → Type 0) (f : Found) (regs l : List ℕ) {done : Outcome × List ℕ × List ℕ}
+pub guarded_both : (P : Outcome × List ℕ × List ℕ → Type 0) (f : Option ℕ) (regs l : List ℕ) {done : Outcome × List ℕ × List ℕ}
     → ((address : ℕ) → P (stops (Bus address), regs, l)) → P done → P (guarded_of f regs l done)
 unfolding guarded_of
-guarded_both P Inside regs l p q = q
-guarded_both P (Outside address) regs l p q = p address
+guarded_both P None regs l p q = q
+guarded_both P (Some address) regs l p q = p address
 
 -- byte b is what it was in l
 abbrev pub Untouched : List ℕ → ℕ → Outcome × List ℕ × List ℕ → Type 0
 Untouched l b x = get_or x.2 b 0 ≡ get_or l b 0
 
-pub guarded_untouched : (f : Found) (regs l : List ℕ) (b : ℕ) (done : Outcome × List ℕ × List ℕ) → Untouched l b done → Untouched l b (guarded_of f regs l done)
+pub guarded_untouched : (f : Option ℕ) (regs l : List ℕ) (b : ℕ) (done : Outcome × List ℕ × List ℕ) → Untouched l b done → Untouched l b (guarded_of f regs l done)
 guarded_untouched f regs l b done h = guarded_both (Untouched l b) f regs l (λ a. refl) h
 
-module _ (regs l : List ℕ) (done : Outcome × List ℕ × List ℕ) (f : Found) where
-  pub guarded_inside : f ≡ Inside → guarded_of f regs l done ≡ done
+module _ (regs l : List ℕ) (done : Outcome × List ℕ × List ℕ) (f : Option ℕ) where
+  pub guarded_inside : f ≡ None → guarded_of f regs l done ≡ done
   unfolding guarded_of
   guarded_inside e = rw e
 
-  pub guarded_outside : (address : ℕ) → f ≡ Outside address → guarded_of f regs l done ≡ (stops (Bus address), regs, l)
+  pub guarded_outside : (address : ℕ) → f ≡ Some address → guarded_of f regs l done ≡ (stops (Bus address), regs, l)
   unfolding guarded_of
   guarded_outside address e = rw e
 
