@@ -1,5 +1,5 @@
 // LDM and STM: on lent registers, and with S on the machine by value.
-#![tactic(auto)]
+#![tactic(auto, using(bits::specs::Cases::cases))]
 
 ghost use Rattle.std.specs.Prelude.{◌≡◌, ◌^◌, ◌<◌, length};
 ghost use Rattle.cpu.specs.With.{with_regs};
@@ -20,6 +20,7 @@ pub struct Plan {
     pub moved: u32,
 }
 
+#[tactic(auto, using(bits::specs::Cases::cases), unfolding(crate::specs::Block::list_of))]
 fn list_of(op: u32) -> u32
     ensures { (result ≡ list_of op) × (result < 2 ^ 16) }
 {
@@ -27,6 +28,7 @@ fn list_of(op: u32) -> u32
     if low == 0 { 32768 } else { low }
 }
 
+#[tactic(auto, using(bits::specs::Cases::cases), unfolding(crate::specs::Block::span_of))]
 fn find_span(op: u32, list: u32) -> u32
     requires { list ≡ list_of op }
     ensures { result ≡ span_of op }
@@ -38,6 +40,7 @@ fn find_span(op: u32, list: u32) -> u32
     }
 }
 
+#[tactic(auto, using(bits::specs::Cases::cases), unfolding(crate::specs::Block::start_of))]
 fn find_start(regs: &[u32; 16], op: u32, moved: u32) -> u32
     ensures { result ≡ start_of regs.now op moved }
 {
@@ -53,6 +56,7 @@ fn find_start(regs: &[u32; 16], op: u32, moved: u32) -> u32
     }
 }
 
+#[tactic(auto, using(bits::specs::Cases::cases), unfolding(crate::specs::Block::plan_of))]
 fn make_plan(regs: &[u32; 16], op: u32) -> Plan
     ensures { (result ≡ plan_of regs.now op) × (result.list < 2 ^ 16) }
 {
@@ -74,6 +78,7 @@ fn find_outside(len: usize, p: Plan) -> Found
     }
 }
 
+#[tactic(auto, using(bits::specs::Cases::cases), unfolding(crate::specs::Block::back_of))]
 fn write_back(regs: &mut [u32; 16], op: u32, p: Plan)
     ensures { regs.new ≡ back_of p regs.old op }
 {
@@ -83,6 +88,7 @@ fn write_back(regs: &mut [u32; 16], op: u32, p: Plan)
 }
 
 // A base that is loaded is not written back.
+#[tactic(auto, using(bits::specs::Cases::cases), unfolding(crate::specs::Block::unlisted_of))]
 fn write_unlisted(regs: &mut [u32; 16], op: u32, p: Plan)
     ensures { regs.new ≡ unlisted_of p regs.old op }
 {
@@ -93,6 +99,7 @@ fn write_unlisted(regs: &mut [u32; 16], op: u32, p: Plan)
 }
 
 // The registers as they are stored.
+#[tactic(auto, using(bits::specs::Cases::cases), unfolding(crate::specs::Laws::Sources::sources_of))]
 fn take_sources(regs: &[u32; 16], op: u32, p: Plan) -> [u32; 16]
     ensures { result ≡ sources_of p regs.now op }
 {
@@ -157,6 +164,7 @@ fn load_listed(regs: &mut [u32; 16], p: Plan, mem: &[u8])
     }
 }
 
+#[tactic(auto, using(bits::specs::Cases::cases), unfolding(crate::specs::Block::store_of))]
 fn store(regs: &mut [u32; 16], op: u32, p: Plan, mem: &mut [u8]) -> Outcome
     requires { Told p (length mem.old) }
     ensures { (result, regs.new, mem.new) ≡ store_of p regs.old op mem.old }
@@ -167,6 +175,7 @@ fn store(regs: &mut [u32; 16], op: u32, p: Plan, mem: &mut [u8]) -> Outcome
     cpu::finish(regs)
 }
 
+#[tactic(auto, using(bits::specs::Cases::cases), unfolding(crate::specs::Block::continued_of))]
 fn go_on(regs: &mut [u32; 16], p: Plan) -> Outcome
     ensures { (result, regs.new) ≡ continued_of p regs.old }
 {
@@ -178,6 +187,7 @@ fn go_on(regs: &mut [u32; 16], p: Plan) -> Outcome
     }
 }
 
+#[tactic(auto, using(bits::specs::Cases::cases), unfolding(crate::specs::Block::load_of))]
 fn load(regs: &mut [u32; 16], op: u32, p: Plan, mem: &[u8]) -> Outcome
     requires { Told p (length mem.now) }
     ensures { (result, regs.new, mem.now) ≡ load_of p regs.old op mem.now }
@@ -187,6 +197,7 @@ fn load(regs: &mut [u32; 16], op: u32, p: Plan, mem: &[u8]) -> Outcome
     go_on(regs, p)
 }
 
+#[tactic(auto, using(bits::specs::Cases::cases), unfolding(crate::specs::Block::block_of))]
 pub fn execute(regs: &mut [u32; 16], op: u32, mem: &mut [u8]) -> Outcome
     ensures { (result, regs.new, mem.new) ≡ block_of regs.old op mem.old }
 {
@@ -228,6 +239,7 @@ fn take_user(m: Machine) -> [u32; 16]
     out
 }
 
+#[tactic(auto, using(bits::specs::Cases::cases), unfolding(crate::specs::UserBlock::user_store_of))]
 fn store_user(m: Machine, op: u32, p: Plan, mem: &mut [u8]) -> Machine
     requires { Told p (length mem.old) }
     ensures { (result, mem.new) ≡ user_store_of p m op mem.old }
@@ -277,6 +289,7 @@ fn load_user_listed(m: Machine, p: Plan, mem: &[u8]) -> Machine
     out
 }
 
+#[tactic(auto, using(bits::specs::Cases::cases), unfolding(crate::specs::UserBlock::user_load_of))]
 fn load_user(m: Machine, op: u32, p: Plan, mem: &[u8]) -> Machine
     requires { Told p (length mem.now) }
     ensures { result ≡ user_load_of p m op mem.now }
@@ -290,6 +303,7 @@ fn load_user(m: Machine, op: u32, p: Plan, mem: &[u8]) -> Machine
 }
 
 // The saved record comes back before r15 branches.
+#[tactic(auto, using(bits::specs::Cases::cases), unfolding(crate::specs::UserBlock::return_load_of))]
 fn load_return(m: Machine, op: u32, p: Plan, mem: &[u8]) -> Machine
     requires { Told p (length mem.now) }
     ensures { result ≡ return_load_of p m op mem.now }
@@ -303,6 +317,7 @@ fn load_return(m: Machine, op: u32, p: Plan, mem: &[u8]) -> Machine
     banks::exchange_to(banks::restore(out), to)
 }
 
+#[tactic(auto, using(bits::specs::Cases::cases), unfolding(crate::specs::UserBlock::user_moved_of))]
 fn move_user(m: Machine, op: u32, p: Plan, mem: &mut [u8]) -> Machine
     requires { Told p (length mem.old) }
     ensures { (result, mem.new) ≡ user_moved_of p m op mem.old }

@@ -8,7 +8,8 @@ use Rattle.memory.specs.declared.Width.TheVariants.{Byte, Half, Word}
 use Rattle.memory.specs.Bytes.{word_at, put_word, bytes_of, read_of, written_of}
 use Rattle.memory.specs.Plans.{outside_of}
 use Rattle.cpu.specs.declared.Outcome.{Outcome}
-use Rattle.cpu.specs.Outcomes.{tagged, untagged, undefined_of, landed_of}
+use Rattle.cpu.specs.declared.Outcome.TheVariants.{Tagged, Untagged}
+use Rattle.cpu.specs.Outcomes.{undefined_of, landed_of}
 use Rattle.transfer.specs.Transfers.{guarded_of, beside, byte_or_word_of, base_of}
 
 -- Rm, bits 3-0
@@ -36,7 +37,7 @@ second_of regs op = (base_of regs op + 4) % 2 ^ 32
 
 -- a value in Rd, r15 by a branch, and the tag at the address
 abbrev pub marked_of : List ℕ → ℕ → ℕ → ℕ → Outcome × List ℕ
-marked_of regs rd value at = (tagged at, (landed_of regs rd value).1)
+marked_of regs rd value at = (Tagged at, (landed_of regs rd value).1)
 
 -- A4.1.27 LDREX; DDI 0406C, LDREXB and LDREXH
 unfoldable pub ldrex_of : List ℕ → ℕ → List ℕ → Outcome × List ℕ × List ℕ
@@ -59,7 +60,7 @@ succeeds regs op tag = option_eq eqb tag (Some (base_of regs op))
 
 -- status 0 in Rd, and the tag goes
 abbrev pub succeeded_of : List ℕ → ℕ → Outcome × List ℕ
-succeeded_of regs op = (untagged, (landed_of regs (op ⟨ 15 ‥ 12 ⟩) 0).1)
+succeeded_of regs op = (Untagged, (landed_of regs (op ⟨ 15 ‥ 12 ⟩) 0).1)
 
 -- status 1 in Rd, with no access; D5: the tag stays
 abbrev pub failed_of : List ℕ → ℕ → Outcome × List ℕ

@@ -1,5 +1,5 @@
 // Swaps, and loads and stores exclusive, on lent registers and memory.
-#![tactic(auto)]
+#![tactic(auto, using(bits::specs::Cases::cases))]
 
 ghost use Rattle.std.specs.Prelude.{◌≡◌, ◌<◌};
 ghost use Rattle.exclusive.specs.Exclusive.{swap_of, width_of, ldrex_of, ldrexd_of, marked_of, succeeded_of, failed_of, strex_of, strexd_of, exclusive_of};
@@ -7,13 +7,14 @@ ghost use Rattle.exclusive.specs.Exclusive.{swap_of, width_of, ldrex_of, ldrexd_
 use cpu::{Answer, Outcome};
 use memory::{Outside, Width};
 
+#[tactic(auto, using(bits::specs::Cases::cases, transfer::specs::Laws::Guards::guard_open, transfer::specs::Laws::Guards::guard_shut, transfer::specs::Laws::Guards::beside_is), unfolding(crate::specs::Exclusive::swap_of))]
 pub fn swap(regs: &mut [u32; 16], mem: &mut [u8], op: u32) -> Outcome
     ensures { (result, regs.new, mem.new) ≡ swap_of regs.old op mem.old }
 {
     let at = regs[(op / 65536 % 16) as usize];
     let width = transfer::find_width(op);
     if memory::reaches_out(mem.len(), at, width.bytes()) {
-        cpu::stop_with(Answer::Bus(at))
+        Outcome::Stop(Answer::Bus(at))
     } else {
         let old = memory::load(mem, at, width);
         memory::store(mem, at, width, regs[(op % 16) as usize]);
@@ -21,6 +22,7 @@ pub fn swap(regs: &mut [u32; 16], mem: &mut [u8], op: u32) -> Outcome
     }
 }
 
+#[tactic(auto, using(bits::specs::Cases::cases), unfolding(crate::specs::Exclusive::width_of))]
 fn size_width(op: u32) -> Width
     ensures { result ≡ width_of op }
 {
@@ -37,17 +39,18 @@ fn give_tagged(regs: &mut [u32; 16], rd: u32, value: u32, at: u32) -> Outcome
     ensures { (result, regs.new) ≡ marked_of regs.old rd value at }
 {
     cpu::land(regs, rd, value);
-    cpu::set_tag(at)
+    Outcome::Tagged(at)
 }
 
 // LDREX, LDREXB, LDREXH.
+#[tactic(auto, using(bits::specs::Cases::cases, transfer::specs::Laws::Guards::guard_open, transfer::specs::Laws::Guards::guard_shut, transfer::specs::Laws::Guards::beside_is), unfolding(crate::specs::Exclusive::ldrex_of))]
 fn load_one(regs: &mut [u32; 16], mem: &[u8], op: u32) -> Outcome
     ensures { (result, regs.new, mem.now) ≡ ldrex_of regs.old op mem.now }
 {
     let at = regs[(op / 65536 % 16) as usize];
     let width = size_width(op);
     if memory::reaches_out(mem.len(), at, width.bytes()) {
-        cpu::stop_with(Answer::Bus(at))
+        Outcome::Stop(Answer::Bus(at))
     } else {
         let value = memory::load(mem, at, width);
         give_tagged(regs, op / 4096 % 16, value, at)
@@ -55,6 +58,7 @@ fn load_one(regs: &mut [u32; 16], mem: &[u8], op: u32) -> Outcome
 }
 
 // LDREXD.
+#[tactic(auto, using(bits::specs::Cases::cases, memory::specs::Laws::Plans::within_ok, memory::specs::Laws::Plans::within_err, transfer::specs::Laws::Guards::guarded_inside, transfer::specs::Laws::Guards::guarded_outside, transfer::specs::Laws::Guards::beside_is), unfolding(crate::specs::Exclusive::ldrexd_of))]
 fn load_pair(regs: &mut [u32; 16], mem: &[u8], op: u32) -> Outcome
     ensures { (result, regs.new, mem.now) ≡ ldrexd_of regs.old op mem.now }
 {
@@ -68,7 +72,7 @@ fn load_pair(regs: &mut [u32; 16], mem: &[u8], op: u32) -> Outcome
                 regs[rd as usize] = first;
                 give_tagged(regs, rd + 1, second, at)
             }
-            Err(Outside(address)) => cpu::stop_with(Answer::Bus(address)),
+            Err(Outside(address)) => Outcome::Stop(Answer::Bus(address)),
         }
     }
 }
@@ -78,7 +82,7 @@ fn succeed(regs: &mut [u32; 16], op: u32) -> Outcome
     ensures { (result, regs.new) ≡ succeeded_of regs.old op }
 {
     cpu::land(regs, op / 4096 % 16, 0);
-    cpu::clear_tag()
+    Outcome::Untagged
 }
 
 // Status 1, and the tag stays.
@@ -89,6 +93,7 @@ fn fail(regs: &mut [u32; 16], op: u32) -> Outcome
 }
 
 // STREX, STREXB, STREXH.
+#[tactic(auto, using(bits::specs::Cases::cases, transfer::specs::Laws::Guards::guard_open, transfer::specs::Laws::Guards::guard_shut, transfer::specs::Laws::Guards::beside_is), unfolding(crate::specs::Exclusive::strex_of))]
 fn store_one(regs: &mut [u32; 16], mem: &mut [u8], op: u32, tag: Option<u32>) -> Outcome
     ensures { (result, regs.new, mem.new) ≡ strex_of regs.old op tag mem.old }
 {
@@ -96,7 +101,7 @@ fn store_one(regs: &mut [u32; 16], mem: &mut [u8], op: u32, tag: Option<u32>) ->
     if tag == Some(at) {
         let width = size_width(op);
         if memory::reaches_out(mem.len(), at, width.bytes()) {
-            cpu::stop_with(Answer::Bus(at))
+            Outcome::Stop(Answer::Bus(at))
         } else {
             let value = regs[(op % 16) as usize];
             memory::store(mem, at, width, value);
@@ -119,7 +124,7 @@ fn store_pair(regs: &mut [u32; 16], mem: &mut [u8], op: u32, tag: Option<u32>) -
         if tag == Some(at) {
             match memory::store_pair(mem, at, regs[rm as usize], regs[(rm + 1) as usize]) {
                 Ok(()) => succeed(regs, op),
-                Err(Outside(address)) => cpu::stop_with(Answer::Bus(address)),
+                Err(Outside(address)) => Outcome::Stop(Answer::Bus(address)),
             }
         } else {
             fail(regs, op)
@@ -128,6 +133,7 @@ fn store_pair(regs: &mut [u32; 16], mem: &mut [u8], op: u32, tag: Option<u32>) -
 }
 
 // The exclusive tag comes as its address, where there is one.
+#[tactic(auto, using(bits::specs::Cases::cases), unfolding(crate::specs::Exclusive::exclusive_of))]
 pub fn execute(regs: &mut [u32; 16], mem: &mut [u8], op: u32, tag: Option<u32>) -> Outcome
     ensures { (result, regs.new, mem.new) ≡ exclusive_of regs.old op tag mem.old }
 {

@@ -8,7 +8,8 @@ use Rattle.memory.specs.Bytes.{byte_at, half_at, word_at, put_word}
 use Rattle.memory.specs.Plans.{outside_of}
 use Rattle.cpu.specs.declared.Answer.TheVariants.{TransferForm}
 use Rattle.cpu.specs.declared.Outcome.{Outcome}
-use Rattle.cpu.specs.Outcomes.{stops, undefined_of, done_of, landed_of}
+use Rattle.cpu.specs.declared.Outcome.TheVariants.{Stop}
+use Rattle.cpu.specs.Outcomes.{undefined_of, done_of, landed_of}
 use Rattle.transfer.specs.Transfers.{guarded_of, beside, moved_of, address_of, based_of}
 use Rattle.loadstore.specs.Single.{rd_of, store_of}
 
@@ -55,7 +56,7 @@ extra_loads_of regs op l moved address =
 -- A5.3, with L, bit 20, and S and H; D4: the first register of a pair may be odd; D7
 unfoldable pub extra_at : List ℕ → ℕ → List ℕ → ℕ → ℕ → Outcome × List ℕ × List ℕ
 extra_at regs op l moved address =
-    when op ⟨ 6 ‥ 5 ⟩ == 0 then (stops (TransferForm op), regs, l)  -- answer 11
+    when op ⟨ 6 ‥ 5 ⟩ == 0 then (Stop (TransferForm op), regs, l)  -- answer 11
     else when op ⟨ 20 ⟩ then extra_loads_of regs op l moved address
     else when op ⟨ 6 ‥ 5 ⟩ == 1 then strh_of regs op l moved address
     else when rd_of op == 15 then beside (undefined_of regs op) l  -- r15 has no register behind it

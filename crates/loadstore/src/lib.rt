@@ -1,5 +1,5 @@
 // Loads and stores of one register or of a pair, on lent registers and memory.
-#![tactic(auto)]
+#![tactic(auto, using(bits::specs::Cases::cases))]
 
 ghost use Rattle.std.specs.Prelude.{◌≡◌, ◌+◌, ◌/◌, ◌%◌, ◌<◌, ◌≤◌, length};
 ghost use Rattle.memory.specs.Bytes.{bytes_of};
@@ -11,6 +11,7 @@ use cpu::{Answer, Outcome};
 use memory::{Outside, Width};
 
 // The offset of LDR and STR.
+#[tactic(auto, using(bits::specs::Cases::cases), unfolding(crate::specs::Single::offset_of))]
 fn find_offset(regs: &[u32; 16], op: u32, c: bool) -> u32
     ensures { result ≡ offset_of regs.now op c }
 {
@@ -28,6 +29,7 @@ fn find_offset(regs: &[u32; 16], op: u32, c: bool) -> u32
 }
 
 // What STR stores: r15 is A + 12.
+#[tactic(auto, using(bits::specs::Cases::cases), unfolding(crate::specs::Single::source_of))]
 fn read_source(regs: &[u32; 16], op: u32) -> u32
     ensures { result ≡ source_of regs.now op }
 {
@@ -40,6 +42,7 @@ fn read_source(regs: &[u32; 16], op: u32) -> u32
 }
 
 // What LDR loads: r15 takes T from bit 0.
+#[tactic(auto, using(bits::specs::Cases::cases), unfolding(crate::specs::Single::taken_of))]
 fn take(regs: &mut [u32; 16], op: u32, value: u32) -> Outcome
     ensures { (result, regs.new) ≡ taken_of regs.old op value }
 {
@@ -76,12 +79,13 @@ fn store_one(
     cpu::finish(regs)
 }
 
+#[tactic(auto, using(bits::specs::Cases::cases, bits::specs::Cases::if_yes, bits::specs::Cases::if_no, transfer::specs::Laws::Guards::guard_shut, transfer::specs::Laws::Guards::guard_open, transfer::specs::Laws::Guards::beside_is), unfolding(crate::specs::Single::single_at))]
 fn move_single(regs: &mut [u32; 16], op: u32, mem: &mut [u8], moved: u32, at: u32) -> Outcome
     ensures { (result, regs.new, mem.new) ≡ single_at regs.old op mem.old moved at }
 {
     let width = transfer::find_width(op);
     if memory::reaches_out(mem.len(), at, width.bytes()) {
-        cpu::stop_with(Answer::Bus(at))
+        Outcome::Stop(Answer::Bus(at))
     } else if op / 1048576 % 2 == 1 {
         load_one(regs, op, moved, memory::load(mem, at, width))
     } else {
@@ -90,6 +94,7 @@ fn move_single(regs: &mut [u32; 16], op: u32, mem: &mut [u8], moved: u32, at: u3
 }
 
 // LDR, LDRB, STR and STRB.
+#[tactic(auto, using(bits::specs::Cases::cases), unfolding(crate::specs::Single::single_of))]
 pub fn single(regs: &mut [u32; 16], op: u32, c: bool, mem: &mut [u8]) -> Outcome
     ensures { (result, regs.new, mem.new) ≡ single_of regs.old op c mem.old }
 {
@@ -99,6 +104,7 @@ pub fn single(regs: &mut [u32; 16], op: u32, c: bool, mem: &mut [u8]) -> Outcome
 }
 
 // The offset of the others.
+#[tactic(auto, using(bits::specs::Cases::cases), unfolding(crate::specs::Extra::extra_offset_of))]
 fn find_extra_offset(regs: &[u32; 16], op: u32) -> u32
     ensures { result ≡ extra_offset_of regs.now op }
 {
@@ -110,6 +116,7 @@ fn find_extra_offset(regs: &[u32; 16], op: u32) -> u32
 }
 
 // A number as a word, by its sign or not.
+#[tactic(auto, using(bits::specs::Cases::cases), unfolding(crate::specs::Laws::Loads::widened_of))]
 fn widen(value: u32, width: Width, sign: bool) -> u32
     ensures { result ≡ widened_of width sign value }
 {
@@ -121,6 +128,7 @@ fn widen(value: u32, width: Width, sign: bool) -> u32
 }
 
 // A load of one value.
+#[tactic(auto, using(bits::specs::Cases::cases, transfer::specs::Laws::Guards::guard_shut, transfer::specs::Laws::Guards::guard_open, transfer::specs::Laws::Guards::beside_is))]
 fn load_wide(
     regs: &mut [u32; 16],
     op: u32,
@@ -133,7 +141,7 @@ fn load_wide(
     ensures { (result, regs.new, mem.new) ≡ wide_load_of regs.old op mem.old moved at width sign }
 {
     if memory::reaches_out(mem.len(), at, width.bytes()) {
-        cpu::stop_with(Answer::Bus(at))
+        Outcome::Stop(Answer::Bus(at))
     } else {
         let value = widen(memory::load(mem, at, width), width, sign);
         transfer::write_back(regs, op, moved);
@@ -142,6 +150,7 @@ fn load_wide(
 }
 
 // LDRH, LDRSB and LDRSH.
+#[tactic(auto, using(bits::specs::Cases::cases), unfolding(crate::specs::Extra::extra_loads_of, crate::specs::Laws::Loads::widened_of))]
 fn load_extra(regs: &mut [u32; 16], op: u32, mem: &mut [u8], moved: u32, at: u32) -> Outcome
     ensures { (result, regs.new, mem.new) ≡ extra_loads_of regs.old op mem.old moved at }
 {
@@ -155,11 +164,12 @@ fn load_extra(regs: &mut [u32; 16], op: u32, mem: &mut [u8], moved: u32, at: u32
 }
 
 // STRH.
+#[tactic(auto, using(bits::specs::Cases::cases, transfer::specs::Laws::Guards::guard_shut, transfer::specs::Laws::Guards::guard_open))]
 fn store_half(regs: &mut [u32; 16], op: u32, mem: &mut [u8], moved: u32, at: u32) -> Outcome
     ensures { (result, regs.new, mem.new) ≡ strh_of regs.old op mem.old moved at }
 {
     if memory::reaches_out(mem.len(), at, 2) {
-        cpu::stop_with(Answer::Bus(at))
+        Outcome::Stop(Answer::Bus(at))
     } else {
         let value = regs[(op / 4096 % 16) as usize];
         store_one(regs, op, mem, moved, at, Width::Half, value)
@@ -167,6 +177,7 @@ fn store_half(regs: &mut [u32; 16], op: u32, mem: &mut [u8], moved: u32, at: u32
 }
 
 // LDRD.
+#[tactic(auto, using(bits::specs::Cases::cases, memory::specs::Laws::Plans::within_ok, memory::specs::Laws::Plans::within_err, transfer::specs::Laws::Guards::beside_is), unfolding(transfer::specs::Transfers::guarded_of))]
 fn load_pair(regs: &mut [u32; 16], op: u32, mem: &mut [u8], moved: u32, at: u32) -> Outcome
     requires { op / 4096 % 16 < 15 }
     ensures { (result, regs.new, mem.new) ≡ ldrd_of regs.old op mem.old moved at }
@@ -177,7 +188,7 @@ fn load_pair(regs: &mut [u32; 16], op: u32, mem: &mut [u8], moved: u32, at: u32)
             regs[(op / 4096 % 16) as usize] = low;
             cpu::land(regs, op / 4096 % 16 + 1, high)
         }
-        Err(Outside(a)) => cpu::stop_with(Answer::Bus(a)),
+        Err(Outside(a)) => Outcome::Stop(Answer::Bus(a)),
     }
 }
 
@@ -193,15 +204,16 @@ fn store_pair(regs: &mut [u32; 16], op: u32, mem: &mut [u8], moved: u32, at: u32
             transfer::write_back(regs, op, moved);
             cpu::finish(regs)
         }
-        Err(Outside(a)) => cpu::stop_with(Answer::Bus(a)),
+        Err(Outside(a)) => Outcome::Stop(Answer::Bus(a)),
     }
 }
 
+#[tactic(auto, using(bits::specs::Cases::cases), unfolding(crate::specs::Extra::extra_at))]
 fn move_extra(regs: &mut [u32; 16], op: u32, mem: &mut [u8], moved: u32, at: u32) -> Outcome
     ensures { (result, regs.new, mem.new) ≡ extra_at regs.old op mem.old moved at }
 {
     if op / 32 % 4 == 0 {
-        cpu::stop_with(Answer::TransferForm(op))
+        Outcome::Stop(Answer::TransferForm(op))
     } else if op / 1048576 % 2 == 1 {
         load_extra(regs, op, mem, moved, at)
     } else if op / 32 % 4 == 1 {
@@ -216,6 +228,7 @@ fn move_extra(regs: &mut [u32; 16], op: u32, mem: &mut [u8], moved: u32, at: u32
 }
 
 // LDRH, LDRSB, LDRSH, STRH, LDRD and STRD.
+#[tactic(auto, using(bits::specs::Cases::cases), unfolding(crate::specs::Extra::extra_of))]
 pub fn extra(regs: &mut [u32; 16], op: u32, mem: &mut [u8]) -> Outcome
     ensures { (result, regs.new, mem.new) ≡ extra_of regs.old op mem.old }
 {

@@ -6,12 +6,12 @@ use Rattle.memory.specs.declared.Width.{Width}
 use Rattle.memory.specs.declared.Width.TheVariants.{Byte, Word}
 use Rattle.cpu.specs.declared.Outcome.{Outcome}
 use Rattle.cpu.specs.declared.Answer.TheVariants.{Bus}
-use Rattle.cpu.specs.Outcomes.{stops}
+use Rattle.cpu.specs.declared.Outcome.TheVariants.{Stop}
 
 -- answer 7 with the first access outside, all else as before; or what the transfer does
 unfoldable pub guarded_of : Option ℕ → List ℕ → List ℕ → Outcome × List ℕ × List ℕ → Outcome × List ℕ × List ℕ
 guarded_of None regs l done = done
-guarded_of (Some address) regs l done = (stops (Bus address), regs, l)
+guarded_of (Some address) regs l done = (Stop (Bus address), regs, l)
 
 -- a family that leaves memory alone
 abbrev pub beside : Outcome × List ℕ → List ℕ → Outcome × List ℕ × List ℕ

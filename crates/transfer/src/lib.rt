@@ -1,11 +1,12 @@
 // What every transfer shares: its width, the base, its move, and write-back.
-#![tactic(auto)]
+#![tactic(auto, using(bits::specs::Cases::cases))]
 
 ghost use Rattle.std.specs.Prelude.{◌≡◌};
 ghost use Rattle.transfer.specs.Transfers.{byte_or_word_of, moved_of, address_of, based_of};
 
 use memory::Width;
 
+#[tactic(auto, using(bits::specs::Cases::cases), unfolding(crate::specs::Transfers::byte_or_word_of))]
 pub fn find_width(op: u32) -> Width
     ensures { result ≡ byte_or_word_of op }
 {
@@ -16,6 +17,7 @@ pub fn find_width(op: u32) -> Width
     }
 }
 
+#[tactic(auto, using(bits::specs::Cases::cases), unfolding(crate::specs::Transfers::moved_of))]
 pub fn move_base(regs: &[u32; 16], op: u32, offset: u32) -> u32
     ensures { result ≡ moved_of regs.now op offset }
 {
@@ -27,6 +29,7 @@ pub fn move_base(regs: &[u32; 16], op: u32, offset: u32) -> u32
     }
 }
 
+#[tactic(auto, using(bits::specs::Cases::cases), unfolding(crate::specs::Transfers::address_of))]
 pub fn find_address(regs: &[u32; 16], op: u32, moved: u32) -> u32
     ensures { result ≡ address_of regs.now op moved }
 {
@@ -37,6 +40,7 @@ pub fn find_address(regs: &[u32; 16], op: u32, moved: u32) -> u32
     }
 }
 
+#[tactic(auto, using(bits::specs::Cases::cases), unfolding(crate::specs::Transfers::based_of))]
 pub fn write_back(regs: &mut [u32; 16], op: u32, moved: u32)
     ensures { regs.new ≡ based_of regs.old op moved }
 {

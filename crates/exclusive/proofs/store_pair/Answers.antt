@@ -20,7 +20,7 @@ pub returns-in-Err : goal.returns-in-Err
 unfolding strexd_of when◌then◌else◌
 returns-in-Err c =
     let a = c.args in
-    rw (ne_eqb _ _ c.if-rm-eq15.false, sym c.eq.ensures ∙ c.if-eq.true, performed_outside _ _ _ c.store_pair.ensures _ c.in-Err.is, c.stop_with.ensures)
+    rw (ne_eqb _ _ c.if-rm-eq15.false, sym c.eq.ensures ∙ c.if-eq.true, performed_outside _ _ _ c.store_pair.ensures _ c.in-Err.is)
     (sym (guarded_outside a.regs.now a.mem.now _ _ _ (performed_some _ _ _ c.store_pair.ensures _ c.in-Err.is)))
 
 pub returns-else-eq : goal.returns-else-eq

@@ -12,4 +12,4 @@ returns-in-Ok c =
 pub returns-in-Err : goal.returns-in-Err
 unfolding guarded_of
 returns-in-Err c =
-    rw (performed_some _ _ _ c.store_pair.ensures _ c.in-Err.is, performed_outside _ _ _ c.store_pair.ensures _ c.in-Err.is, c.stop_with.ensures)
+    rw (performed_some _ _ _ c.store_pair.ensures _ c.in-Err.is, performed_outside _ _ _ c.store_pair.ensures _ c.in-Err.is)

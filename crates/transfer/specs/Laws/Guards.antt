@@ -6,12 +6,12 @@ use Rattle.memory.specs.Plans.{reaches_out, outside_of}
 use Rattle.memory.specs.Laws.Plans.{out_one}
 use Rattle.cpu.specs.declared.Outcome.{Outcome}
 use Rattle.cpu.specs.declared.Answer.TheVariants.{Bus}
-use Rattle.cpu.specs.Outcomes.{stops}
+use Rattle.cpu.specs.declared.Outcome.TheVariants.{Stop}
 use Rattle.transfer.specs.Transfers.{guarded_of, beside}
 
 -- what holds of every answer 7, and of what the transfer does, holds of the guarded transfer
 pub guarded_both : (P : Outcome × List ℕ × List ℕ → Type 0) (f : Option ℕ) (regs l : List ℕ) {done : Outcome × List ℕ × List ℕ}
-    → ((address : ℕ) → P (stops (Bus address), regs, l)) → P done → P (guarded_of f regs l done)
+    → ((address : ℕ) → P (Stop (Bus address), regs, l)) → P done → P (guarded_of f regs l done)
 unfolding guarded_of
 guarded_both P None regs l p q = q
 guarded_both P (Some address) regs l p q = p address
@@ -28,13 +28,13 @@ module _ (regs l : List ℕ) (done : Outcome × List ℕ × List ℕ) (f : Optio
   unfolding guarded_of
   guarded_inside e = rw e
 
-  pub guarded_outside : (address : ℕ) → f ≡ Some address → guarded_of f regs l done ≡ (stops (Bus address), regs, l)
+  pub guarded_outside : (address : ℕ) → f ≡ Some address → guarded_of f regs l done ≡ (Stop (Bus address), regs, l)
   unfolding guarded_of
   guarded_outside address e = rw e
 
 -- one access
 module _ (len at width : ℕ) (regs l : List ℕ) (done : Outcome × List ℕ × List ℕ) where
-  pub guard_shut : reaches_out len at width ≡ true → guarded_of (outside_of len at width 1) regs l done ≡ (stops (Bus at), regs, l)
+  pub guard_shut : reaches_out len at width ≡ true → guarded_of (outside_of len at width 1) regs l done ≡ (Stop (Bus at), regs, l)
   unfolding guarded_of when◌then◌else◌
   guard_shut e = rw (out_one len at width, e)
 

@@ -1,7 +1,0 @@
-use Rattle.block.specs.Block.{plan_of}
-use Rattle.block.proofs.make_plan.Goals as goal
-
-pub returns : goal.returns
-unfolding plan_of
-returns c =
-    (rw (c.find_start-start.ensures, c.move_base-moved.ensures, c.find_span.ensures, c.list_of-list.ensures.0), c.list_of-list.ensures.1)
