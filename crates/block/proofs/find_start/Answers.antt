@@ -2,18 +2,18 @@ use Rattle.bits.specs.Cases.{cases}
 use Rattle.block.specs.Block.{start_of}
 use Rattle.block.proofs.find_start.Goals as goal
 
-pub returns-then-mode-eq1 : goal.returns-then-mode-eq1
+pub returns-in-1 : goal.returns-in-1
 unfolding start_of
-returns-then-mode-eq1 c = search cases
+returns-in-1 c = search cases
 
-pub returns-then-mode-eq3 : goal.returns-then-mode-eq3
+pub returns-in-3 : goal.returns-in-3
 unfolding start_of
-returns-then-mode-eq3 c = search (cases, c.wrapping_add.ensures)
+returns-in-3 c = search cases
 
-pub returns-then-mode-eq0 : goal.returns-then-mode-eq0
+pub returns-in-0 : goal.returns-in-0
 unfolding start_of
-returns-then-mode-eq0 c = search (cases, c.wrapping_add-then-mode-eq0.ensures)
+returns-in-0 c = search cases
 
-pub returns-else-mode-eq0 : goal.returns-else-mode-eq0
+pub returns-in_default : goal.returns-in_default
 unfolding start_of
-returns-else-mode-eq0 c = search cases
+returns-in_default c = search cases

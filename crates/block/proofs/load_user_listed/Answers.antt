@@ -1,30 +1,26 @@
-use Rattle.block.specs.Laws.Loops.{loading_first, loading_set, loading_clear, loading_last, under_reach, under_here, loaded_is}
-use Rattle.std.proofs.Common.{sym, ◌∙◌, arith}
+use Rattle.block.specs.Laws.Loops.{loading_first, loading_set, loading_clear, loading_last, under_none, under_here, loaded_is}
+use Rattle.std.proofs.Common.{◌<◌, rules, sym, ◌∙◌, arith}
+use Rattle.block.proofs.load_user_listed.Goals.{then-rest-eq1, else-rest-eq1}
 use Rattle.block.proofs.load_user_listed.Goals as goal
 
-pub loop-rest-init : goal.loop-rest-init
-loop-rest-init c = loading_first c.args.p _ _ _ c.requires
+pub loop-i-init : goal.loop-i-init
+loop-i-init c = loading_first c.args.p _ _ _ (search rules) c.requires
 
 pub read32-requires : goal.read32-requires
-read32-requires c = under_here c.loop-rest.invariant.under c.loop-rest-test.true c.if-rest-eq1.true
+read32-requires c = under_here c.loop-i.invariant.under (omega (arith, c.if-rest-eq0.false)) c.if-rest-eq1.true
 
-pub write_user_reg-out-requires : goal.write_user_reg-out-requires
-write_user_reg-out-requires c = under_reach c.loop-rest.invariant.under c.loop-rest-test.true
+pub loop-i-preserved : goal.loop-i-preserved
+loop-i-preserved c =
+    let h : 0 < c.loop-i.rest = omega (arith, c.if-rest-eq0.false) in
+    elim c.if-rest-eq1.branch [
+      | then-rest-eq1 w ↦ rw (w.out-is, w.a-is, w.write_user_reg-out.ensures, w.read32.ensures) (loading_set c.loop-i.invariant h w.if-rest-eq1.true)
+      | else-rest-eq1 w ↦ rw (w.out-is, w.a-is) (loading_clear c.loop-i.invariant h w.if-rest-eq1.false)
+    ]
 
-pub overflow_add-i : goal.overflow_add-i
-overflow_add-i c = omega (arith, under_reach c.loop-rest.invariant.under c.loop-rest-test.true)
+pub returns-after-loop-i : goal.returns-after-loop-i
+returns-after-loop-i c =
+    sym (loaded_is _ c.args.p _ _ (search rules) ∙ loading_last c.loop-i.invariant (under_none c.loop-i.invariant.under (omega (arith, c.loop-i-test.false))))
 
-pub loop-rest-preserved-then-rest-eq1 : goal.loop-rest-preserved-then-rest-eq1
-loop-rest-preserved-then-rest-eq1 c =
-    rw (c.write_user_reg-out.ensures, c.read32.ensures, c.wrapping_add-a.ensures)
-    (loading_set c.loop-rest.invariant c.loop-rest-test.true c.if-rest-eq1.true)
-
-pub overflow_add-i-else-rest-eq1 : goal.overflow_add-i-else-rest-eq1
-overflow_add-i-else-rest-eq1 c = omega (arith, under_reach c.loop-rest.invariant.under c.loop-rest-test.true)
-
-pub loop-rest-preserved : goal.loop-rest-preserved
-loop-rest-preserved c = loading_clear c.loop-rest.invariant c.loop-rest-test.true c.if-rest-eq1.false
-
-pub returns : goal.returns
-returns c =
-    sym (loaded_is _ c.args.p _ _ c.requires.1 ∙ loading_last c.loop-rest.invariant c.loop-rest-test.false)
+pub returns-then-rest-eq0 : goal.returns-then-rest-eq0
+returns-then-rest-eq0 c =
+    sym (loaded_is _ c.args.p _ _ (search rules) ∙ loading_last c.loop-i.invariant (omega (arith, c.if-rest-eq0.true)))

@@ -3,5 +3,4 @@ use Rattle.block.proofs.make_plan.Goals as goal
 
 pub returns : goal.returns
 unfolding plan_of
-returns c =
-    (rw (c.find_start-start.ensures, c.move_base-moved.ensures, c.find_span.ensures, c.list_of-list.ensures.0), c.list_of-list.ensures.1)
+returns c = rw (c.find_start-start.ensures, c.move_base-moved.ensures, c.find_span.ensures, c.list_of-list.ensures)

@@ -1,13 +1,12 @@
 use Rattle.bits.specs.Cases.{when◌then◌else◌}
 use Rattle.block.specs.Laws.Sources.{sources_of}
+use Rattle.block.proofs.take_sources.Goals.{then-moves, else-moves}
 use Rattle.block.proofs.take_sources.Goals as goal
 
-pub returns-then-moves : goal.returns-then-moves
+pub returns : goal.returns
 unfolding sources_of when◌then◌else◌
-returns-then-moves c =
-    rw (c.wrapping_add-next.ensures, ← c.power.ensures.0, c.if-moves.true)
-
-pub returns-else-moves : goal.returns-else-moves
-unfolding sources_of when◌then◌else◌
-returns-else-moves c =
-    rw (c.wrapping_add-next.ensures, ← c.power.ensures.0, c.if-moves.false)
+returns c =
+    elim c.if-moves.branch [
+      | then-moves w ↦ rw (w.out-is, ← c.power.ensures.0, w.if-moves.true)
+      | else-moves w ↦ rw (w.out-is, ← c.power.ensures.0, w.if-moves.false)
+    ]

@@ -2,14 +2,14 @@ use Rattle.block.specs.Laws.Ways.{moves_user, refuses_user}
 use Rattle.std.proofs.Common.{sym, ◌∙◌}
 use Rattle.block.proofs.transfer_user.Goals as goal
 
-pub move_user-machine-requires : goal.move_user-machine-requires
-move_user-machine-requires c =
-    (sym c.find_outside-found.ensures ∙ c.in-Inside.is, c.make_plan-p.ensures.1)
+pub move_user-requires : goal.move_user-requires
+move_user-requires c =
+    sym c.find_outside.ensures ∙ c.in-None.is
 
-pub returns-in-Inside : goal.returns-in-Inside
-returns-in-Inside c =
-    moves_user c.args.m c.args.op _ c.make_plan-p.ensures.0 (sym c.find_outside-found.ensures ∙ c.in-Inside.is) c.move_user-machine.ensures
+pub returns-in-None : goal.returns-in-None
+returns-in-None c =
+    moves_user c.args.m c.args.op _ c.make_plan-p.ensures (sym c.find_outside.ensures ∙ c.in-None.is) c.move_user.ensures
 
-pub returns-in-Outside : goal.returns-in-Outside
-returns-in-Outside c =
-    refuses_user c.args.m c.args.op _ c.make_plan-p.ensures.0 _ (sym c.find_outside-found.ensures ∙ c.in-Outside.is)
+pub returns-in-Some : goal.returns-in-Some
+returns-in-Some c =
+    refuses_user c.args.m c.args.op _ c.make_plan-p.ensures _ (sym c.find_outside.ensures ∙ c.in-Some.is)

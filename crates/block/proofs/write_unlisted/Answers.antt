@@ -3,11 +3,10 @@ use Rattle.block.specs.Block.{unlisted_of}
 use Rattle.std.proofs.Common.{sym, ◌∙◌}
 use Rattle.block.proofs.write_unlisted.Goals as goal
 
-pub returns-then-listed : goal.returns-then-listed
+pub returns-then-not-listed : goal.returns-then-not-listed
 unfolding unlisted_of
-returns-then-listed c = sym (if_yes _ _ _ (sym c.bit-listed.ensures ∙ c.if-listed.true))
+returns-then-not-listed c = c.write_back.ensures ∙ sym (if_no _ _ _ (sym c.bit-listed.ensures ∙ c.if-not-listed.true))
 
-pub returns-else-listed : goal.returns-else-listed
+pub returns-else-not-listed : goal.returns-else-not-listed
 unfolding unlisted_of
-returns-else-listed c =
-    c.write_back.ensures ∙ sym (if_no _ _ _ (sym c.bit-listed.ensures ∙ c.if-listed.false))
+returns-else-not-listed c = sym (if_yes _ _ _ (sym c.bit-listed.ensures ∙ c.if-not-listed.false))
