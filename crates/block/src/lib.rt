@@ -1,11 +1,11 @@
 // LDM and STM: on lent registers, and with S on the machine by value.
 #![tactic(auto)]
 
-ghost use Rattle.std.specs.Prelude.{◌≡◌, length};
+ghost use Rattle.std.specs.Prelude.{◌≡◌, ℕ, ◌<◌, length, set};
 ghost use Rattle.cpu.specs.With.{with_regs};
-ghost use Rattle.banks.specs.Banks.{user_reg_of};
-ghost use Rattle.block.specs.Block.{list_of, span_of, start_of, plan_of, found_of, back_of, unlisted_of, loaded_of, continued_of, store_of, load_of, block_of};
-ghost use Rattle.block.specs.UserBlock.{user_store_of, user_loaded_of, user_load_of, return_load_of, user_moved_of, user_block_of};
+ghost use Rattle.banks.specs.Banks.{user_reg_of, with_user_reg};
+ghost use Rattle.block.specs.Block.{list_of, span_of, start_of, plan_of, found_of, back_of, unlisted_of, loaded_list_of, continued_of, store_of, load_of, block_of};
+ghost use Rattle.block.specs.UserBlock.{user_store_of, user_load_of, return_load_of, user_moved_of, user_block_of};
 ghost use Rattle.block.specs.Laws.Sources.{sources_of, stored_by, Values};
 
 use cpu::{Answer, Machine, Outcome};
@@ -120,19 +120,45 @@ fn store_listed(values: &[u32; 16], p: Plan, mem: &mut [u8])
     }
 }
 
+// What a load puts its words into, a register at a time.
+trait Registers {
+    ghost with: { Self → ℕ → ℕ → Self };
+
+    fn put(&mut self, r: u32, word: u32)
+        requires { r < 16 }
+        ensures { self.new ≡ with self.old r word };
+}
+
+impl Registers for [u32; 16] {
+    ghost with = { λ x r v. set x r v };
+
+    fn put(&mut self, r: u32, word: u32) {
+        self[r as usize] = word;
+    }
+}
+
+// Those of the User bank.
+impl Registers for Machine {
+    ghost with = { λ x r v. with_user_reg x r v };
+
+    fn put(&mut self, r: u32, word: u32) {
+        *self = banks::write_user_reg(*self, r, word);
+    }
+}
+
 // The words into the listed registers, in transfer order.
-fn load_listed(regs: &mut [u32; 16], p: Plan, mem: &[u8])
+fn load_listed<R: Registers>(to: &mut R, p: Plan, mem: &[u8])
     requires { found_of p (length mem.now) ≡ None }
-    ensures { regs.new ≡ loaded_of p regs.old mem.now }
+    ensures { to.new ≡ loaded_list_of p R.with to.old mem.now }
 {
     let mut rest = p.list;
     let mut a = p.start;
-    for register in regs.iter_mut() {
+    for i in 0..16 {
         if rest == 0 {
             break;
         }
         if rest % 2 == 1 {
-            *register = memory::read32(mem, a);
+            to.put(i, memory::read32(mem, a));
             a = a.wrapping_add(4);
         }
         rest /= 2;
@@ -202,10 +228,8 @@ fn store_user(m: Machine, op: u32, p: Plan, mem: &mut [u8]) -> Machine
 {
     let values = take_user(m);
     store_listed(&values, p, mem);
-    let mut regs = m.regs;
-    write_back(&mut regs, op, p);
     let mut out = m;
-    out.regs = regs;
+    write_back(&mut out.regs, op, p);
     banks::move_on(out)
 }
 
@@ -213,31 +237,8 @@ fn store_user(m: Machine, op: u32, p: Plan, mem: &mut [u8]) -> Machine
 fn write_base(m: Machine, op: u32, p: Plan) -> Machine
     ensures { result ≡ with_regs m (unlisted_of p m.regs op) }
 {
-    let mut regs = m.regs;
-    write_unlisted(&mut regs, op, p);
     let mut out = m;
-    out.regs = regs;
-    out
-}
-
-// The words into the listed registers of the User bank, in transfer order.
-fn load_user_listed(m: Machine, p: Plan, mem: &[u8]) -> Machine
-    requires { found_of p (length mem.now) ≡ None }
-    ensures { result ≡ user_loaded_of p m mem.now }
-{
-    let mut out = m;
-    let mut rest = p.list;
-    let mut a = p.start;
-    for i in 0..16 {
-        if rest == 0 {
-            break;
-        }
-        if rest % 2 == 1 {
-            out = banks::write_user_reg(out, i, memory::read32(mem, a));
-            a = a.wrapping_add(4);
-        }
-        rest /= 2;
-    }
+    write_unlisted(&mut out.regs, op, p);
     out
 }
 
@@ -245,7 +246,8 @@ fn load_user(m: Machine, op: u32, p: Plan, mem: &[u8]) -> Machine
     requires { found_of p (length mem.now) ≡ None }
     ensures { result ≡ user_load_of p m op mem.now }
 {
-    let out = load_user_listed(write_base(m, op, p), p, mem);
+    let mut out = write_base(m, op, p);
+    load_listed(&mut out, p, mem);
     if p.list / 32768 % 2 == 1 {
         out
     } else {
@@ -258,13 +260,9 @@ fn load_return(m: Machine, op: u32, p: Plan, mem: &[u8]) -> Machine
     requires { found_of p (length mem.now) ≡ None }
     ensures { result ≡ return_load_of p m op mem.now }
 {
-    let mut regs = m.regs;
-    write_unlisted(&mut regs, op, p);
-    load_listed(&mut regs, p, mem);
-    let to = regs[15];
-    let mut out = m;
-    out.regs = regs;
-    banks::exchange_to(banks::restore(out), to)
+    let mut out = write_base(m, op, p);
+    load_listed(&mut out.regs, p, mem);
+    banks::exchange_to(banks::restore(out), out.regs[15])
 }
 
 fn move_user(m: Machine, op: u32, p: Plan, mem: &mut [u8]) -> Machine
