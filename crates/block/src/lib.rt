@@ -10,7 +10,7 @@ ghost use Rattle.block.specs.Laws.Sources.{sources_of, stored_by, Values};
 
 use cpu::{Answer, Machine, Outcome};
 
-// What a transfer is told: its list, the lowest address, and the moved base.
+// What a transfer is told: its list, the lowest address, and the moved base. That its words lie inside is a fact about the memory too, so clauses say it and not the type.
 #[derive(Clone, Copy)]
 pub struct Plan {
     pub list: u16,
@@ -47,79 +47,6 @@ fn find_start(regs: &[u32; 16], op: u32, moved: u32) -> u32
     }
 }
 
-fn make_plan(regs: &[u32; 16], op: u32) -> Plan
-    ensures { result ≡ plan_of regs.now op }
-{
-    let list = list_of(op);
-    let moved = transfer::move_base(regs, op, find_span(op, list));
-    let start = find_start(regs, op, moved);
-    Plan { list, start, moved }
-}
-
-// A block whose end lies inside needs no test of each access.
-fn find_outside(len: usize, p: Plan) -> Option<u32>
-    ensures { result ≡ found_of p len }
-{
-    let count = bits::count_ones(p.list as u32);
-    if p.start as usize + 4 * count as usize <= len {
-        None
-    } else {
-        memory::find_outside(len, p.start, 4, count)
-    }
-}
-
-fn write_back(regs: &mut [u32; 16], op: u32, p: Plan)
-    ensures { regs.new ≡ back_of p regs.old op }
-{
-    if op / 2097152 % 2 == 1 {
-        regs[(op / 65536 % 16) as usize] = p.moved;
-    }
-}
-
-// A base that is loaded is not written back.
-fn write_unlisted(regs: &mut [u32; 16], op: u32, p: Plan)
-    ensures { regs.new ≡ unlisted_of p regs.old op }
-{
-    let listed = bits::bit(p.list as u32, op / 65536 % 16);
-    if !listed {
-        write_back(regs, op, p);
-    }
-}
-
-// The registers as they are stored.
-fn take_sources(regs: &[u32; 16], op: u32, p: Plan) -> [u32; 16]
-    ensures { result ≡ sources_of p regs.now op }
-{
-    let rn = op / 65536 % 16;
-    let lower = 0 < p.list as u64 % bits::power(rn);
-    let moves = (op / 2097152 % 2 == 1) & lower;
-    let mut out = *regs;
-    if moves {
-        out[rn as usize] = p.moved;
-    }
-    out[15] = regs[15].wrapping_add(4);
-    out
-}
-
-// The values of the listed registers, in transfer order; no register is looked at behind the last of the list.
-fn store_listed(values: &[u32; 16], p: Plan, mem: &mut [u8])
-    requires { found_of p (length mem.old) ≡ None }
-    ensures { mem.new ≡ stored_by p values.now mem.old }
-{
-    let mut rest = p.list;
-    let mut a = p.start;
-    for value in values {
-        if rest == 0 {
-            break;
-        }
-        if rest % 2 == 1 {
-            memory::write32(mem, a, *value);
-            a = a.wrapping_add(4);
-        }
-        rest /= 2;
-    }
-}
-
 // What a load puts its words into, a register at a time.
 trait Registers {
     ghost with: { Self → ℕ → ℕ → Self };
@@ -146,22 +73,97 @@ impl Registers for Machine {
     }
 }
 
-// The words into the listed registers, in transfer order.
-fn load_listed<R: Registers>(to: &mut R, p: Plan, mem: &[u8])
-    requires { found_of p (length mem.now) ≡ None }
-    ensures { to.new ≡ loaded_list_of p R.with to.old mem.now }
-{
-    let mut rest = p.list;
-    let mut a = p.start;
-    for i in 0..16 {
-        if rest == 0 {
-            break;
+impl Plan {
+    fn make(regs: &[u32; 16], op: u32) -> Plan
+        ensures { result ≡ plan_of regs.now op }
+    {
+        let list = list_of(op);
+        let moved = transfer::move_base(regs, op, find_span(op, list));
+        let start = find_start(regs, op, moved);
+        Plan { list, start, moved }
+    }
+
+    // A block whose end lies inside needs no test of each access.
+    fn find_outside(self, len: usize) -> Option<u32>
+        ensures { result ≡ found_of self len }
+    {
+        let count = bits::count_ones(self.list as u32);
+        if self.start as usize + 4 * count as usize <= len {
+            None
+        } else {
+            memory::find_outside(len, self.start, 4, count)
         }
-        if rest % 2 == 1 {
-            to.put(i, memory::read32(mem, a));
-            a = a.wrapping_add(4);
+    }
+
+    fn write_back(self, regs: &mut [u32; 16], op: u32)
+        ensures { regs.new ≡ back_of self regs.old op }
+    {
+        if op / 2097152 % 2 == 1 {
+            regs[(op / 65536 % 16) as usize] = self.moved;
         }
-        rest /= 2;
+    }
+
+    // A base that is loaded is not written back.
+    fn write_unlisted(self, regs: &mut [u32; 16], op: u32)
+        ensures { regs.new ≡ unlisted_of self regs.old op }
+    {
+        let listed = bits::bit(self.list as u32, op / 65536 % 16);
+        if !listed {
+            self.write_back(regs, op);
+        }
+    }
+
+    // The registers as they are stored.
+    fn take_sources(self, regs: &[u32; 16], op: u32) -> [u32; 16]
+        ensures { result ≡ sources_of self regs.now op }
+    {
+        let rn = op / 65536 % 16;
+        let lower = 0 < self.list as u64 % bits::power(rn);
+        let moves = (op / 2097152 % 2 == 1) & lower;
+        let mut out = *regs;
+        if moves {
+            out[rn as usize] = self.moved;
+        }
+        out[15] = regs[15].wrapping_add(4);
+        out
+    }
+
+    // The values of the listed registers, in transfer order; no register is looked at behind the last of the list.
+    fn store_listed(self, values: &[u32; 16], mem: &mut [u8])
+        requires { found_of self (length mem.old) ≡ None }
+        ensures { mem.new ≡ stored_by self values.now mem.old }
+    {
+        let mut rest = self.list;
+        let mut a = self.start;
+        for value in values {
+            if rest == 0 {
+                break;
+            }
+            if rest % 2 == 1 {
+                memory::write32(mem, a, *value);
+                a = a.wrapping_add(4);
+            }
+            rest /= 2;
+        }
+    }
+
+    // The words into the listed registers, in transfer order.
+    fn load_listed<R: Registers>(self, to: &mut R, mem: &[u8])
+        requires { found_of self (length mem.now) ≡ None }
+        ensures { to.new ≡ loaded_list_of self R.with to.old mem.now }
+    {
+        let mut rest = self.list;
+        let mut a = self.start;
+        for i in 0..16 {
+            if rest == 0 {
+                break;
+            }
+            if rest % 2 == 1 {
+                to.put(i, memory::read32(mem, a));
+                a = a.wrapping_add(4);
+            }
+            rest /= 2;
+        }
     }
 }
 
@@ -169,9 +171,9 @@ fn store(regs: &mut [u32; 16], op: u32, p: Plan, mem: &mut [u8]) -> Outcome
     requires { found_of p (length mem.old) ≡ None }
     ensures { (result, regs.new, mem.new) ≡ store_of p regs.old op mem.old }
 {
-    let values = take_sources(regs, op, p);
-    store_listed(&values, p, mem);
-    write_back(regs, op, p);
+    let values = p.take_sources(regs, op);
+    p.store_listed(&values, mem);
+    p.write_back(regs, op);
     cpu::finish(regs)
 }
 
@@ -190,8 +192,8 @@ fn load(regs: &mut [u32; 16], op: u32, p: Plan, mem: &[u8]) -> Outcome
     requires { found_of p (length mem.now) ≡ None }
     ensures { (result, regs.new, mem.now) ≡ load_of p regs.old op mem.now }
 {
-    write_unlisted(regs, op, p);
-    load_listed(regs, p, mem);
+    p.write_unlisted(regs, op);
+    p.load_listed(regs, mem);
     go_on(regs, p)
 }
 
@@ -201,8 +203,8 @@ pub fn execute(regs: &mut [u32; 16], op: u32, mem: &mut [u8]) -> Outcome
     if op / 4194304 % 2 == 1 {
         cpu::move_block()
     } else {
-        let p = make_plan(regs, op);
-        match find_outside(mem.len(), p) {
+        let p = Plan::make(regs, op);
+        match p.find_outside(mem.len()) {
             None => {
                 if op / 1048576 % 2 == 1 {
                     load(regs, op, p, mem)
@@ -227,9 +229,9 @@ fn store_user(m: Machine, op: u32, p: Plan, mem: &mut [u8]) -> Machine
     ensures { (result, mem.new) ≡ user_store_of p m op mem.old }
 {
     let values = take_user(m);
-    store_listed(&values, p, mem);
+    p.store_listed(&values, mem);
     let mut out = m;
-    write_back(&mut out.regs, op, p);
+    p.write_back(&mut out.regs, op);
     banks::move_on(out)
 }
 
@@ -238,7 +240,7 @@ fn write_base(m: Machine, op: u32, p: Plan) -> Machine
     ensures { result ≡ with_regs m (unlisted_of p m.regs op) }
 {
     let mut out = m;
-    write_unlisted(&mut out.regs, op, p);
+    p.write_unlisted(&mut out.regs, op);
     out
 }
 
@@ -247,7 +249,7 @@ fn load_user(m: Machine, op: u32, p: Plan, mem: &[u8]) -> Machine
     ensures { result ≡ user_load_of p m op mem.now }
 {
     let mut out = write_base(m, op, p);
-    load_listed(&mut out, p, mem);
+    p.load_listed(&mut out, mem);
     if p.list / 32768 % 2 == 1 {
         out
     } else {
@@ -261,7 +263,7 @@ fn load_return(m: Machine, op: u32, p: Plan, mem: &[u8]) -> Machine
     ensures { result ≡ return_load_of p m op mem.now }
 {
     let mut out = write_base(m, op, p);
-    load_listed(&mut out.regs, p, mem);
+    p.load_listed(&mut out.regs, mem);
     banks::exchange_to(banks::restore(out), out.regs[15])
 }
 
@@ -284,8 +286,8 @@ fn move_user(m: Machine, op: u32, p: Plan, mem: &mut [u8]) -> Machine
 pub fn transfer_user(m: Machine, op: u32, mem: &mut [u8]) -> Result<Machine, Answer>
     ensures { (result, mem.new) ≡ user_block_of m op mem.old }
 {
-    let p = make_plan(&m.regs, op);
-    match find_outside(mem.len(), p) {
+    let p = Plan::make(&m.regs, op);
+    match p.find_outside(mem.len()) {
         None => Ok(move_user(m, op, p, mem)),
         Some(at) => Err(Answer::Bus(at)),
     }

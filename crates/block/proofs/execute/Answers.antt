@@ -18,13 +18,13 @@ returns-then-op-eq1 c = rw c.move_block.ensures (search cases)
 
 pub returns-then-op-eq1-2 : goal.returns-then-op-eq1-2
 returns-then-op-eq1-2 c =
-    loads c.args.regs.now c.args.op _ c.make_plan-p.ensures c.if-op-eq1.false (sym c.find_outside.ensures ∙ c.in-None.is) c.if-op-eq1-2.true c.load.ensures
+    loads c.args.regs.now c.args.op _ c.make-p.ensures c.if-op-eq1.false (sym c.find_outside.ensures ∙ c.in-None.is) c.if-op-eq1-2.true c.load.ensures
 
 pub returns-else-op-eq1-2 : goal.returns-else-op-eq1-2
 returns-else-op-eq1-2 c =
-    stores c.args.regs.now c.args.op _ c.make_plan-p.ensures c.if-op-eq1.false (sym c.find_outside.ensures ∙ c.in-None.is) c.if-op-eq1-2.false c.store.ensures
+    stores c.args.regs.now c.args.op _ c.make-p.ensures c.if-op-eq1.false (sym c.find_outside.ensures ∙ c.in-None.is) c.if-op-eq1-2.false c.store.ensures
 
 pub returns-in-Some : goal.returns-in-Some
 returns-in-Some c =
     rw c.stop_with.ensures
-    (refuses c.args.regs.now c.args.op _ c.make_plan-p.ensures c.if-op-eq1.false _ (sym c.find_outside.ensures ∙ c.in-Some.is))
+    (refuses c.args.regs.now c.args.op _ c.make-p.ensures c.if-op-eq1.false _ (sym c.find_outside.ensures ∙ c.in-Some.is))

@@ -8,8 +8,8 @@ move_user-requires c =
 
 pub returns-in-None : goal.returns-in-None
 returns-in-None c =
-    moves_user c.args.m c.args.op _ c.make_plan-p.ensures (sym c.find_outside.ensures ∙ c.in-None.is) c.move_user.ensures
+    moves_user c.args.m c.args.op _ c.make-p.ensures (sym c.find_outside.ensures ∙ c.in-None.is) c.move_user.ensures
 
 pub returns-in-Some : goal.returns-in-Some
 returns-in-Some c =
-    refuses_user c.args.m c.args.op _ c.make_plan-p.ensures _ (sym c.find_outside.ensures ∙ c.in-Some.is)
+    refuses_user c.args.m c.args.op _ c.make-p.ensures _ (sym c.find_outside.ensures ∙ c.in-Some.is)

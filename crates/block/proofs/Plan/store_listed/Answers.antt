@@ -1,10 +1,10 @@
 use Rattle.block.specs.Laws.Loops.{storing_first, storing_set, storing_clear, storing_last, under_none, under_here, stored_is}
 use Rattle.std.proofs.Common.{◌<◌, rules, sym, ◌∙◌, arith}
-use Rattle.block.proofs.store_listed.Goals.{then-rest-eq1, else-rest-eq1}
-use Rattle.block.proofs.store_listed.Goals as goal
+use Rattle.block.proofs.Plan.store_listed.Goals.{then-rest-eq1, else-rest-eq1}
+use Rattle.block.proofs.Plan.store_listed.Goals as goal
 
 pub loop-value-init : goal.loop-value-init
-loop-value-init c = storing_first c.args.p _ _ (search rules) c.requires
+loop-value-init c = storing_first c.args.self _ _ (search rules) c.requires
 
 pub write32-requires : goal.write32-requires
 write32-requires c = under_here c.loop-value.invariant.under (omega (arith, c.if-rest-eq0.false)) c.if-rest-eq1.true
@@ -19,8 +19,8 @@ loop-value-preserved c =
 
 pub returns-after-loop-value : goal.returns-after-loop-value
 returns-after-loop-value c =
-    sym (stored_is c.args.p _ _ (search rules) ∙ storing_last c.loop-value.invariant (under_none c.loop-value.invariant.under (omega (arith, c.loop-value-test.false))))
+    sym (stored_is c.args.self _ _ (search rules) ∙ storing_last c.loop-value.invariant (under_none c.loop-value.invariant.under (omega (arith, c.loop-value-test.false))))
 
 pub returns-then-rest-eq0 : goal.returns-then-rest-eq0
 returns-then-rest-eq0 c =
-    sym (stored_is c.args.p _ _ (search rules) ∙ storing_last c.loop-value.invariant (omega (arith, c.if-rest-eq0.true)))
+    sym (stored_is c.args.self _ _ (search rules) ∙ storing_last c.loop-value.invariant (omega (arith, c.if-rest-eq0.true)))

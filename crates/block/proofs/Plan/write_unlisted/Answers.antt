@@ -1,7 +1,7 @@
 use Rattle.bits.specs.Cases.{if_yes, if_no}
 use Rattle.block.specs.Block.{unlisted_of}
 use Rattle.std.proofs.Common.{sym, ◌∙◌}
-use Rattle.block.proofs.write_unlisted.Goals as goal
+use Rattle.block.proofs.Plan.write_unlisted.Goals as goal
 
 pub returns-then-not-listed : goal.returns-then-not-listed
 unfolding unlisted_of

@@ -1,6 +1,6 @@
 use Rattle.bits.specs.Cases.{cases}
 use Rattle.block.specs.Block.{back_of}
-use Rattle.block.proofs.write_back.Goals as goal
+use Rattle.block.proofs.Plan.write_back.Goals as goal
 
 pub returns-then-op-eq1 : goal.returns-then-op-eq1
 unfolding back_of

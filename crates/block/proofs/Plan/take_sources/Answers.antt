@@ -1,7 +1,7 @@
 use Rattle.bits.specs.Cases.{when◌then◌else◌}
 use Rattle.block.specs.Laws.Sources.{sources_of}
-use Rattle.block.proofs.take_sources.Goals.{then-moves, else-moves}
-use Rattle.block.proofs.take_sources.Goals as goal
+use Rattle.block.proofs.Plan.take_sources.Goals.{then-moves, else-moves}
+use Rattle.block.proofs.Plan.take_sources.Goals as goal
 
 pub returns : goal.returns
 unfolding sources_of when◌then◌else◌

@@ -1,5 +1,5 @@
 use Rattle.block.specs.Block.{plan_of}
-use Rattle.block.proofs.make_plan.Goals as goal
+use Rattle.block.proofs.Plan.make.Goals as goal
 
 pub returns : goal.returns
 unfolding plan_of
