@@ -1,9 +1,8 @@
 -- LDM and STM (DDI 0100I, A5.4 and A4.1): the list, where its words lie, and what moves; r15 in regs is A + 8.
-use Rattle.std.specs.Prelude.{Bool, ◌&&◌, List, [], ◌∷◌, map, ℕ, zero, suc, ◌+◌, ◌*◌, ◌%◌, ◌^◌, length, get_or, set, drop, ◌==◌}
+use Rattle.std.specs.Prelude.{Bool, ◌&&◌, Option, List, [], ◌∷◌, map, ℕ, zero, suc, ◌+◌, ◌*◌, ◌%◌, ◌^◌, length, get_or, set, drop, ◌==◌}
 use Rattle.bits.specs.Cases.{when◌then◌else◌, ◌<?◌}
 use Rattle.bits.specs.Fields.{◌⟨◌⟩, ◌⟨◌‥◌⟩}
 use Rattle.bits.specs.Words.{ones_of}
-use Rattle.memory.specs.declared.Found.{Found}
 use Rattle.memory.specs.Plans.{accesses_of, outside_of, words_at, stored_of}
 use Rattle.cpu.specs.declared.Outcome.{Outcome}
 use Rattle.cpu.specs.Outcomes.{block, done_of, exchanged_of}
@@ -46,7 +45,7 @@ plan_of regs op =
     record { list = list_of op; start = start_of regs op moved; moved = moved }
 
 -- the first access outside, where there is one
-abbrev pub found_of : Plan → ℕ → Found
+abbrev pub found_of : Plan → ℕ → Option ℕ
 found_of p len = outside_of len p.start 4 (count_of p.list)
 
 -- W, bit 21: Rn becomes the moved base

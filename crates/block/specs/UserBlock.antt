@@ -1,16 +1,13 @@
 -- LDM and STM with S, bit 22 (DDI 0100I, A4.1): transfers of the User bank, and returns from an exception; r15 of the machine is A + 8.
-use Rattle.std.specs.Prelude.{List, ℕ, length, get_or}
+use Rattle.std.specs.Prelude.{Option, Some, None, Result, Ok, Err, List, ℕ, length, get_or}
 use Rattle.bits.specs.Cases.{when◌then◌else◌}
 use Rattle.bits.specs.Fields.{◌⟨◌⟩}
-use Rattle.memory.specs.declared.Found.{Found}
-use Rattle.memory.specs.declared.Found.TheVariants.{Inside, Outside}
 use Rattle.cpu.specs.declared.Answer.{Answer}
-use Rattle.cpu.specs.declared.Answer.TheVariants.{Done, Bus}
+use Rattle.cpu.specs.declared.Answer.TheVariants.{Bus}
 use Rattle.cpu.specs.declared.Machine.{Machine}
 use Rattle.cpu.specs.With.{with_regs}
 use Rattle.banks.specs.Banks.{onward, restored_of, exchanged_to, user_reg_of, with_user_reg}
 use Rattle.block.specs.declared.Plan.{Plan}
-use Rattle.block.specs.declared.Blocked.{Blocked}
 use Rattle.block.specs.Block.{plan_of, found_of, back_of, stored_list_of, unlisted_of, loaded_list_of, loaded_of}
 
 -- A4.1.98 STM (2): the User bank's registers are stored; Rn is the current bank's, also where it is written back
@@ -39,14 +36,11 @@ user_moved_of p m op l =
     when op ⟨ 20 ⟩ then (when op ⟨ 15 ⟩ then (return_load_of p m op l, l) else (user_load_of p m op l, l))
     else user_store_of p m op l
 
-abbrev pub blocked : Machine → Answer → Blocked
-blocked m answer = record { machine = m; answer = answer }
+-- answer 7 with the first access outside, and memory as before; or what the transfer does
+unfoldable pub user_guarded_of : Option ℕ → List ℕ → Machine × List ℕ → Result Machine Answer × List ℕ
+user_guarded_of None l done = (Ok done.0, done.1)
+user_guarded_of (Some address) l done = (Err (Bus address), l)
 
--- answer 7 with the first access outside, all else as before; or what the transfer does
-unfoldable pub user_guarded_of : Found → Machine → List ℕ → Machine × List ℕ → Blocked × List ℕ
-user_guarded_of Inside m l done = (blocked done.0 Done, done.1)
-user_guarded_of (Outside address) m l done = (blocked m (Bus address), l)
-
-unfoldable pub user_block_of : Machine → ℕ → List ℕ → Blocked × List ℕ
+unfoldable pub user_block_of : Machine → ℕ → List ℕ → Result Machine Answer × List ℕ
 user_block_of m op l =
-    user_guarded_of (found_of (plan_of m.regs op) (length l)) m l (user_moved_of (plan_of m.regs op) m op l)
+    user_guarded_of (found_of (plan_of m.regs op) (length l)) l (user_moved_of (plan_of m.regs op) m op l)

@@ -1,181 +1,182 @@
 // LDM and STM: on lent registers, and with S on the machine by value.
-#![tactic(auto, using(bits::specs::Cases::cases))]
+#![tactic(auto)]
 
-ghost use Rattle.std.specs.Prelude.{◌≡◌, ◌^◌, ◌<◌, length};
+ghost use Rattle.std.specs.Prelude.{◌≡◌, ℕ, ◌<◌, length, set};
 ghost use Rattle.cpu.specs.With.{with_regs};
-ghost use Rattle.banks.specs.Banks.{user_reg_of};
-ghost use Rattle.block.specs.Block.{list_of, span_of, start_of, plan_of, found_of, back_of, unlisted_of, loaded_of, continued_of, store_of, load_of, block_of};
-ghost use Rattle.block.specs.UserBlock.{user_store_of, user_loaded_of, user_load_of, return_load_of, user_moved_of, user_block_of};
-ghost use Rattle.block.specs.Laws.Loops.{Told};
+ghost use Rattle.banks.specs.Banks.{user_reg_of, with_user_reg};
+ghost use Rattle.block.specs.Block.{list_of, span_of, start_of, plan_of, found_of, back_of, unlisted_of, loaded_list_of, continued_of, store_of, load_of, block_of};
+ghost use Rattle.block.specs.UserBlock.{user_store_of, user_load_of, return_load_of, user_moved_of, user_block_of};
 ghost use Rattle.block.specs.Laws.Sources.{sources_of, stored_by, Values};
 
 use cpu::{Answer, Machine, Outcome};
-use memory::Found;
 
-// What a transfer is told: its list, the lowest address, and the moved base.
+// What a transfer is told: its list, the lowest address, and the moved base. That its words lie inside is a fact about the memory too, so clauses say it and not the type.
 #[derive(Clone, Copy)]
 pub struct Plan {
-    pub list: u32,
+    pub list: u16,
     pub start: u32,
     pub moved: u32,
 }
 
-#[tactic(auto, using(bits::specs::Cases::cases), unfolding(crate::specs::Block::list_of))]
-fn list_of(op: u32) -> u32
-    ensures { (result ≡ list_of op) × (result < 2 ^ 16) }
+fn list_of(op: u32) -> u16
+    ensures { result ≡ list_of op }
 {
-    let low = op % 65536;
+    let low = (op % 65536) as u16;
     if low == 0 { 32768 } else { low }
 }
 
-#[tactic(auto, using(bits::specs::Cases::cases), unfolding(crate::specs::Block::span_of))]
-fn find_span(op: u32, list: u32) -> u32
+fn find_span(op: u32, list: u16) -> u32
     requires { list ≡ list_of op }
     ensures { result ≡ span_of op }
 {
     if op % 65536 == 0 {
         64
     } else {
-        4 * bits::count_ones(list)
+        4 * bits::count_ones(list as u32)
     }
 }
 
-#[tactic(auto, using(bits::specs::Cases::cases), unfolding(crate::specs::Block::start_of))]
 fn find_start(regs: &[u32; 16], op: u32, moved: u32) -> u32
     ensures { result ≡ start_of regs.now op moved }
 {
-    let mode = op / 8388608 % 4;
-    if mode == 1 {
-        regs[(op / 65536 % 16) as usize]
-    } else if mode == 3 {
-        bits::wrapping_add(regs[(op / 65536 % 16) as usize], 4)
-    } else if mode == 0 {
-        bits::wrapping_add(moved, 4)
-    } else {
-        moved
+    match op / 8388608 % 4 {
+        1 => regs[(op / 65536 % 16) as usize],
+        3 => regs[(op / 65536 % 16) as usize].wrapping_add(4),
+        0 => moved.wrapping_add(4),
+        _ => moved,
     }
 }
 
-#[tactic(auto, using(bits::specs::Cases::cases), unfolding(crate::specs::Block::plan_of))]
-fn make_plan(regs: &[u32; 16], op: u32) -> Plan
-    ensures { (result ≡ plan_of regs.now op) × (result.list < 2 ^ 16) }
-{
-    let list = list_of(op);
-    let moved = transfer::move_base(regs, op, find_span(op, list));
-    let start = find_start(regs, op, moved);
-    Plan { list, start, moved }
+// What a load puts its words into, a register at a time.
+trait Registers {
+    ghost with: { Self → ℕ → ℕ → Self };
+
+    fn put(&mut self, r: u32, word: u32)
+        requires { r < 16 }
+        ensures { self.new ≡ with self.old r word };
 }
 
-// A block whose end lies inside needs no test of each access.
-fn find_outside(len: usize, p: Plan) -> Found
-    ensures { result ≡ found_of p len }
-{
-    let count = bits::count_ones(p.list);
-    if p.start as usize + 4 * count as usize <= len {
-        Found::Inside
-    } else {
-        memory::find_outside(len, p.start, 4, count)
+impl Registers for [u32; 16] {
+    ghost with = { λ x r v. set x r v };
+
+    fn put(&mut self, r: u32, word: u32) {
+        self[r as usize] = word;
     }
 }
 
-#[tactic(auto, using(bits::specs::Cases::cases), unfolding(crate::specs::Block::back_of))]
-fn write_back(regs: &mut [u32; 16], op: u32, p: Plan)
-    ensures { regs.new ≡ back_of p regs.old op }
-{
-    if op / 2097152 % 2 == 1 {
-        regs[(op / 65536 % 16) as usize] = p.moved;
-    } else {}
-}
+// Those of the User bank.
+impl Registers for Machine {
+    ghost with = { λ x r v. with_user_reg x r v };
 
-// A base that is loaded is not written back.
-#[tactic(auto, using(bits::specs::Cases::cases), unfolding(crate::specs::Block::unlisted_of))]
-fn write_unlisted(regs: &mut [u32; 16], op: u32, p: Plan)
-    ensures { regs.new ≡ unlisted_of p regs.old op }
-{
-    let listed = bits::bit(p.list, op / 65536 % 16);
-    if listed {} else {
-        write_back(regs, op, p);
+    fn put(&mut self, r: u32, word: u32) {
+        *self = banks::write_user_reg(*self, r, word);
     }
 }
 
-// The registers as they are stored.
-#[tactic(auto, using(bits::specs::Cases::cases), unfolding(crate::specs::Laws::Sources::sources_of))]
-fn take_sources(regs: &[u32; 16], op: u32, p: Plan) -> [u32; 16]
-    ensures { result ≡ sources_of p regs.now op }
-{
-    let rn = op / 65536 % 16;
-    let lower = 0 < p.list as u64 % bits::power(rn);
-    let moves = (op / 2097152 % 2 == 1) & lower;
-    let next = bits::wrapping_add(regs[15], 4);
-    let mut out = *regs;
-    if moves {
-        out[rn as usize] = p.moved;
-        out[15] = next;
-        out
-    } else {
-        out[15] = next;
-        out
+impl Plan {
+    fn make(regs: &[u32; 16], op: u32) -> Plan
+        ensures { result ≡ plan_of regs.now op }
+    {
+        let list = list_of(op);
+        let moved = transfer::move_base(regs, op, find_span(op, list));
+        let start = find_start(regs, op, moved);
+        Plan { list, start, moved }
     }
-}
 
-// The values of the listed registers, in transfer order.
-fn store_listed(values: &[u32; 16], p: Plan, mem: &mut [u8])
-    requires { Told p (length mem.old) }
-    ensures { mem.new ≡ stored_by p values.now mem.old }
-{
-    let mut rest = p.list;
-    let mut a = p.start;
-    let mut i: usize = 0;
-    while 0 < rest {
-        if rest % 2 == 1 {
-            memory::write32(mem, a, values[i]);
-            a = bits::wrapping_add(a, 4);
-            rest = rest / 2;
-            i += 1;
-            continue;
+    // A block whose end lies inside needs no test of each access.
+    fn find_outside(self, len: usize) -> Option<u32>
+        ensures { result ≡ found_of self len }
+    {
+        let count = bits::count_ones(self.list as u32);
+        if self.start as usize + 4 * count as usize <= len {
+            None
         } else {
-            rest = rest / 2;
-            i += 1;
-            continue;
+            memory::find_outside(len, self.start, 4, count)
+        }
+    }
+
+    fn write_back(self, regs: &mut [u32; 16], op: u32)
+        ensures { regs.new ≡ back_of self regs.old op }
+    {
+        if op / 2097152 % 2 == 1 {
+            regs[(op / 65536 % 16) as usize] = self.moved;
+        }
+    }
+
+    // A base that is loaded is not written back.
+    fn write_unlisted(self, regs: &mut [u32; 16], op: u32)
+        ensures { regs.new ≡ unlisted_of self regs.old op }
+    {
+        let listed = bits::bit(self.list as u32, op / 65536 % 16);
+        if !listed {
+            self.write_back(regs, op);
+        }
+    }
+
+    // The registers as they are stored.
+    fn take_sources(self, regs: &[u32; 16], op: u32) -> [u32; 16]
+        ensures { result ≡ sources_of self regs.now op }
+    {
+        let rn = op / 65536 % 16;
+        let lower = 0 < self.list as u64 % bits::power(rn);
+        let moves = (op / 2097152 % 2 == 1) & lower;
+        let mut out = *regs;
+        if moves {
+            out[rn as usize] = self.moved;
+        }
+        out[15] = regs[15].wrapping_add(4);
+        out
+    }
+
+    // The values of the listed registers, in transfer order; no register is looked at behind the last of the list.
+    fn store_listed(self, values: &[u32; 16], mem: &mut [u8])
+        requires { found_of self (length mem.old) ≡ None }
+        ensures { mem.new ≡ stored_by self values.now mem.old }
+    {
+        let mut rest = self.list;
+        let mut a = self.start;
+        for value in values {
+            if rest == 0 {
+                break;
+            }
+            if rest % 2 == 1 {
+                memory::write32(mem, a, *value);
+                a = a.wrapping_add(4);
+            }
+            rest /= 2;
+        }
+    }
+
+    // The words into the listed registers, in transfer order.
+    fn load_listed<R: Registers>(self, to: &mut R, mem: &[u8])
+        requires { found_of self (length mem.now) ≡ None }
+        ensures { to.new ≡ loaded_list_of self R.with to.old mem.now }
+    {
+        let mut rest = self.list;
+        let mut a = self.start;
+        for i in 0..16 {
+            if rest == 0 {
+                break;
+            }
+            if rest % 2 == 1 {
+                to.put(i, memory::read32(mem, a));
+                a = a.wrapping_add(4);
+            }
+            rest /= 2;
         }
     }
 }
 
-// The words into the listed registers, in transfer order.
-fn load_listed(regs: &mut [u32; 16], p: Plan, mem: &[u8])
-    requires { Told p (length mem.now) }
-    ensures { regs.new ≡ loaded_of p regs.old mem.now }
-{
-    let mut rest = p.list;
-    let mut a = p.start;
-    let mut i: usize = 0;
-    while 0 < rest {
-        if rest % 2 == 1 {
-            regs[i] = memory::read32(mem, a);
-            a = bits::wrapping_add(a, 4);
-            rest = rest / 2;
-            i += 1;
-            continue;
-        } else {
-            rest = rest / 2;
-            i += 1;
-            continue;
-        }
-    }
-}
-
-#[tactic(auto, using(bits::specs::Cases::cases), unfolding(crate::specs::Block::store_of))]
 fn store(regs: &mut [u32; 16], op: u32, p: Plan, mem: &mut [u8]) -> Outcome
-    requires { Told p (length mem.old) }
+    requires { found_of p (length mem.old) ≡ None }
     ensures { (result, regs.new, mem.new) ≡ store_of p regs.old op mem.old }
 {
-    let values = take_sources(regs, op, p);
-    store_listed(&values, p, mem);
-    write_back(regs, op, p);
+    let values = p.take_sources(regs, op);
+    p.store_listed(&values, mem);
+    p.write_back(regs, op);
     cpu::finish(regs)
 }
 
-#[tactic(auto, using(bits::specs::Cases::cases), unfolding(crate::specs::Block::continued_of))]
 fn go_on(regs: &mut [u32; 16], p: Plan) -> Outcome
     ensures { (result, regs.new) ≡ continued_of p regs.old }
 {
@@ -187,69 +188,50 @@ fn go_on(regs: &mut [u32; 16], p: Plan) -> Outcome
     }
 }
 
-#[tactic(auto, using(bits::specs::Cases::cases), unfolding(crate::specs::Block::load_of))]
 fn load(regs: &mut [u32; 16], op: u32, p: Plan, mem: &[u8]) -> Outcome
-    requires { Told p (length mem.now) }
+    requires { found_of p (length mem.now) ≡ None }
     ensures { (result, regs.new, mem.now) ≡ load_of p regs.old op mem.now }
 {
-    write_unlisted(regs, op, p);
-    load_listed(regs, p, mem);
+    p.write_unlisted(regs, op);
+    p.load_listed(regs, mem);
     go_on(regs, p)
 }
 
-#[tactic(auto, using(bits::specs::Cases::cases), unfolding(crate::specs::Block::block_of))]
 pub fn execute(regs: &mut [u32; 16], op: u32, mem: &mut [u8]) -> Outcome
     ensures { (result, regs.new, mem.new) ≡ block_of regs.old op mem.old }
 {
     if op / 4194304 % 2 == 1 {
         cpu::move_block()
     } else {
-        let p = make_plan(regs, op);
-        let found = find_outside(mem.len(), p);
-        match found {
-            Found::Inside => {
+        let p = Plan::make(regs, op);
+        match p.find_outside(mem.len()) {
+            None => {
                 if op / 1048576 % 2 == 1 {
                     load(regs, op, p, mem)
                 } else {
                     store(regs, op, p, mem)
                 }
             }
-            Found::Outside(at) => cpu::stop_with(Answer::Bus(at)),
+            Some(at) => cpu::stop_with(Answer::Bus(at)),
         }
     }
-}
-
-// A machine, and Done or Bus.
-#[derive(Clone, Copy)]
-pub struct Blocked {
-    pub machine: Machine,
-    pub answer: Answer,
 }
 
 // The registers of the User bank.
 fn take_user(m: Machine) -> [u32; 16]
     ensures { Values result (user_reg_of m) 16 }
 {
-    let mut out = [0u32; 16];
-    let mut i: u32 = 0;
-    while i < 16 {
-        out[i as usize] = banks::read_user_reg(m, i);
-        i += 1;
-    }
-    out
+    std::array::from_fn(|i| banks::read_user_reg(m, i as u32))
 }
 
-#[tactic(auto, using(bits::specs::Cases::cases), unfolding(crate::specs::UserBlock::user_store_of))]
 fn store_user(m: Machine, op: u32, p: Plan, mem: &mut [u8]) -> Machine
-    requires { Told p (length mem.old) }
+    requires { found_of p (length mem.old) ≡ None }
     ensures { (result, mem.new) ≡ user_store_of p m op mem.old }
 {
     let values = take_user(m);
-    store_listed(&values, p, mem);
-    let mut regs = m.regs;
-    write_back(&mut regs, op, p);
+    p.store_listed(&values, mem);
     let mut out = m;
-    out.regs = regs;
+    p.write_back(&mut out.regs, op);
     banks::move_on(out)
 }
 
@@ -257,44 +239,17 @@ fn store_user(m: Machine, op: u32, p: Plan, mem: &mut [u8]) -> Machine
 fn write_base(m: Machine, op: u32, p: Plan) -> Machine
     ensures { result ≡ with_regs m (unlisted_of p m.regs op) }
 {
-    let mut regs = m.regs;
-    write_unlisted(&mut regs, op, p);
     let mut out = m;
-    out.regs = regs;
+    p.write_unlisted(&mut out.regs, op);
     out
 }
 
-// The words into the listed registers of the User bank, in transfer order.
-fn load_user_listed(m: Machine, p: Plan, mem: &[u8]) -> Machine
-    requires { Told p (length mem.now) }
-    ensures { result ≡ user_loaded_of p m mem.now }
-{
-    let mut out = m;
-    let mut rest = p.list;
-    let mut a = p.start;
-    let mut i: u32 = 0;
-    while 0 < rest {
-        if rest % 2 == 1 {
-            out = banks::write_user_reg(out, i, memory::read32(mem, a));
-            a = bits::wrapping_add(a, 4);
-            rest = rest / 2;
-            i += 1;
-            continue;
-        } else {
-            rest = rest / 2;
-            i += 1;
-            continue;
-        }
-    }
-    out
-}
-
-#[tactic(auto, using(bits::specs::Cases::cases), unfolding(crate::specs::UserBlock::user_load_of))]
 fn load_user(m: Machine, op: u32, p: Plan, mem: &[u8]) -> Machine
-    requires { Told p (length mem.now) }
+    requires { found_of p (length mem.now) ≡ None }
     ensures { result ≡ user_load_of p m op mem.now }
 {
-    let out = load_user_listed(write_base(m, op, p), p, mem);
+    let mut out = write_base(m, op, p);
+    p.load_listed(&mut out, mem);
     if p.list / 32768 % 2 == 1 {
         out
     } else {
@@ -303,23 +258,17 @@ fn load_user(m: Machine, op: u32, p: Plan, mem: &[u8]) -> Machine
 }
 
 // The saved record comes back before r15 branches.
-#[tactic(auto, using(bits::specs::Cases::cases), unfolding(crate::specs::UserBlock::return_load_of))]
 fn load_return(m: Machine, op: u32, p: Plan, mem: &[u8]) -> Machine
-    requires { Told p (length mem.now) }
+    requires { found_of p (length mem.now) ≡ None }
     ensures { result ≡ return_load_of p m op mem.now }
 {
-    let mut regs = m.regs;
-    write_unlisted(&mut regs, op, p);
-    load_listed(&mut regs, p, mem);
-    let to = regs[15];
-    let mut out = m;
-    out.regs = regs;
-    banks::exchange_to(banks::restore(out), to)
+    let mut out = write_base(m, op, p);
+    p.load_listed(&mut out.regs, mem);
+    banks::exchange_to(banks::restore(out), out.regs[15])
 }
 
-#[tactic(auto, using(bits::specs::Cases::cases), unfolding(crate::specs::UserBlock::user_moved_of))]
 fn move_user(m: Machine, op: u32, p: Plan, mem: &mut [u8]) -> Machine
-    requires { Told p (length mem.old) }
+    requires { found_of p (length mem.old) ≡ None }
     ensures { (result, mem.new) ≡ user_moved_of p m op mem.old }
 {
     if op / 1048576 % 2 == 1 {
@@ -333,24 +282,13 @@ fn move_user(m: Machine, op: u32, p: Plan, mem: &mut [u8]) -> Machine
     }
 }
 
-// With S, on the machine by value.
-pub fn transfer_user(m: Machine, op: u32, mem: &mut [u8]) -> Blocked
+// With S, on the machine by value: the machine afterwards, or answer 7, and memory as it was.
+pub fn transfer_user(m: Machine, op: u32, mem: &mut [u8]) -> Result<Machine, Answer>
     ensures { (result, mem.new) ≡ user_block_of m op mem.old }
 {
-    let regs = m.regs;
-    let p = make_plan(&regs, op);
-    let found = find_outside(mem.len(), p);
-    match found {
-        Found::Inside => {
-            let machine = move_user(m, op, p, mem);
-            Blocked {
-                machine,
-                answer: Answer::Done,
-            }
-        }
-        Found::Outside(at) => Blocked {
-            machine: m,
-            answer: Answer::Bus(at),
-        },
+    let p = Plan::make(&m.regs, op);
+    match p.find_outside(mem.len()) {
+        None => Ok(move_user(m, op, p, mem)),
+        Some(at) => Err(Answer::Bus(at)),
     }
 }

@@ -1,5 +1,5 @@
 -- A transfer a register at a time.
-use Rattle.std.specs.Prelude.{◌≡◌, ℕ, suc, ◌+◌, ◌-◌, ◌/◌, ◌%◌, ◌^◌, ◌≤◌, ◌<◌}
+use Rattle.std.specs.Prelude.{◌≡◌, None, ℕ, suc, ◌+◌, ◌-◌, ◌/◌, ◌%◌, ◌^◌, ◌≤◌, ◌<◌}
 use Rattle.std.proofs.Math.Path.{refl, ap}
 use Rattle.std.proofs.Common.{◌∙◌, arith}
 use mathlib.Core.List.{List, [], ◌∷◌, map}
@@ -8,28 +8,27 @@ use Rattle.memory.specs.Bytes.{word_at, put_word}
 use Rattle.memory.specs.Plans.{accesses_of, outside_of, words_at, put_words, stored_of}
 use Rattle.memory.specs.Laws.Plans.{inside_next}
 use Rattle.memory.specs.Laws.Bytes.{length_word}
-use Rattle.memory.specs.declared.Found.TheVariants.{Inside}
 use Rattle.block.specs.declared.Plan.{Plan}
 use Rattle.block.specs.Block.{found_of, stored_list_of, put_each, loaded_list_of}
 use Rattle.block.specs.Laws.Lists.{rest_of, halved_is, rest_set, rest_clear, rest_small, rest_reach, rest_none, count_rest}
 
--- what a transfer requires of its plan
-abbrev pub Told : Plan → ℕ → Type 0
-Told p len = (found_of p len ≡ Inside) × (p.list < 2 ^ 16)
-
 -- A transfer under way: the registers of rest, from i on, have their words from a on.
 pub record Under (len rest a i : ℕ) : Type 0 where
   pub small : rest < 2 ^ (16 - i)
-  pub inside : outside_of len a 4 (length (rest_of i rest)) ≡ Inside
+  pub inside : outside_of len a 4 (length (rest_of i rest)) ≡ None
 
-pub under_first : (p : Plan) (len : ℕ) → Told p len → Under len p.list p.start 0
-under_first p len t = record { small = t.1; inside = rw (count_rest p.list t.1) at t.0 }
+pub under_first : (p : Plan) (len : ℕ) → p.list < 2 ^ 16 → found_of p len ≡ None → Under len p.list p.start 0
+under_first p len s t = record { small = s; inside = rw (count_rest p.list s) at t }
+
+-- behind the sixteenth register nothing is left
+pub under_none : {len rest a i : ℕ} → Under len rest a i → 16 ≤ i → rest ≤ 0
+under_none {i = i} u h = let e : 16 - i ≡ 0 = omega arith in omega (arith, rw e at u.small)
 
 module _ {len rest a i : ℕ} (u : Under len rest a i) (h : 0 < rest) where
   pub under_reach : i < 16
   under_reach = rest_reach i rest u.small h
 
-  under_next : rest % 2 ≡ 1 → (a + 4 ≤ len) × (outside_of len ((a + 4) % 2 ^ 32) 4 (length (rest_of (i + 1) (rest / 2))) ≡ Inside)
+  under_next : rest % 2 ≡ 1 → (a + 4 ≤ len) × (outside_of len ((a + 4) % 2 ^ 32) 4 (length (rest_of (i + 1) (rest / 2))) ≡ None)
   under_next b =
       let n : ℕ = length (rest_of (i + 1) (rest / 2)) in
       let e : suc n - 1 ≡ n = omega arith in
@@ -65,8 +64,8 @@ pub record Storing (source : ℕ → ℕ) (before : List ℕ) (at list : ℕ) (l
   pub whole : stored_from source before at (rest_of 0 list) ≡ stored_from source l a (rest_of i rest)
   pub long : length l ≡ length before
 
-pub storing_first : (p : Plan) (source : ℕ → ℕ) (l : List ℕ) → Told p (length l) → Storing source l p.start p.list l p.list p.start 0
-storing_first p source l t = record { under = under_first p (length l) t; whole = refl; long = refl }
+pub storing_first : (p : Plan) (source : ℕ → ℕ) (l : List ℕ) → p.list < 2 ^ 16 → found_of p (length l) ≡ None → Storing source l p.start p.list l p.list p.start 0
+storing_first p source l s t = record { under = under_first p (length l) s t; whole = refl; long = refl }
 
 module _ {source : ℕ → ℕ} {before : List ℕ} {at list : ℕ} {l : List ℕ} {rest a i : ℕ} (s : Storing source before at list l rest a i) where
   pub storing_set : 0 < rest → rest % 2 ≡ 1 → Storing source before at list (put_word l a (source i)) (rest / 2) ((a + 4) % 2 ^ 32) (i + 1)
@@ -111,9 +110,9 @@ pub record Loading {A : Type 0} (put : A → ℕ → ℕ → A) (before : A) (l 
   pub under : Under (length l) rest a i
   pub whole : loaded_from put before l at (rest_of 0 list) ≡ loaded_from put x l a (rest_of i rest)
 
-pub loading_first : {A : Type 0} (p : Plan) (put : A → ℕ → ℕ → A) (x : A) (l : List ℕ) → Told p (length l)
+pub loading_first : {A : Type 0} (p : Plan) (put : A → ℕ → ℕ → A) (x : A) (l : List ℕ) → p.list < 2 ^ 16 → found_of p (length l) ≡ None
     → Loading put x l p.start p.list x p.list p.start 0
-loading_first p put x l t = record { under = under_first p (length l) t; whole = refl }
+loading_first p put x l s t = record { under = under_first p (length l) s t; whole = refl }
 
 module _ {A : Type 0} {put : A → ℕ → ℕ → A} {before : A} {l : List ℕ} {at list : ℕ} {x : A} {rest a i : ℕ} (s : Loading put before l at list x rest a i) where
   pub loading_set : 0 < rest → rest % 2 ≡ 1 → Loading put before l at list (put x i (word_at l a)) (rest / 2) ((a + 4) % 2 ^ 32) (i + 1)

@@ -1,5 +1,5 @@
 -- A finished block transfer changes only bytes of its plan, and a load none.
-use Rattle.std.specs.Prelude.{◌≡◌, ℕ, ◌<◌}
+use Rattle.std.specs.Prelude.{◌≡◌, Option, Some, None, ℕ, ◌<◌}
 use Rattle.std.proofs.Math.Path.{refl}
 use mathlib.Core.List.{List}
 use Rattle.std.proofs.Math.ListN.{get_or}
@@ -7,8 +7,6 @@ use Rattle.bits.specs.Cases.{if_both}
 use Rattle.memory.specs.Plans.{accesses_of, stored_of}
 use Rattle.memory.specs.Laws.Bytes.{Clear}
 use Rattle.memory.specs.Laws.Plans.{length_accesses, byte_words}
-use Rattle.memory.specs.declared.Found.{Found}
-use Rattle.memory.specs.declared.Found.TheVariants.{Inside, Outside}
 use Rattle.cpu.specs.declared.Machine.{Machine}
 use Rattle.transfer.specs.Laws.Guards.{Untouched, guarded_untouched}
 use Rattle.block.specs.declared.Plan.{Plan}
@@ -39,10 +37,10 @@ module _ (m : Machine) (op : ℕ) (l : List ℕ) (b : ℕ) where
       (if_both (λ (x : Machine × List ℕ). get_or x.1 b 0 ≡ get_or l b 0) _ refl refl)
       (stored_untouched p _ l b h)
 
-  user_guarded : (f : Found) (done : Machine × List ℕ) → get_or done.1 b 0 ≡ get_or l b 0 → get_or (user_guarded_of f m l done).1 b 0 ≡ get_or l b 0
+  user_guarded : (f : Option ℕ) (done : Machine × List ℕ) → get_or done.1 b 0 ≡ get_or l b 0 → get_or (user_guarded_of f l done).1 b 0 ≡ get_or l b 0
   unfolding user_guarded_of
-  user_guarded Inside done h = h
-  user_guarded (Outside a) done h = refl
+  user_guarded None done h = h
+  user_guarded (Some a) done h = refl
 
   -- with S
   pub user_untouched : Beyond (plan_of m.regs op) b → get_or (user_block_of m op l).1 b 0 ≡ get_or l b 0

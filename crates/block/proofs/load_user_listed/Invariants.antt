@@ -1,9 +1,0 @@
-use Rattle.banks.specs.Banks.{with_user_reg}
-use Rattle.block.specs.Laws.Loops.{Loading}
-use Rattle.block.proofs.load_user_listed.Given as goal
-
-abbrev pub invariant-loop-rest : goal.invariant-loop-rest
-invariant-loop-rest l = Loading (λ x r v. with_user_reg x r v) l.initial.out l.mem l.initial.a l.initial.rest l.out l.rest l.a l.i
-
-abbrev pub decreases-loop-rest : goal.decreases-loop-rest
-decreases-loop-rest l = l.rest

@@ -1,9 +1,0 @@
-use Rattle.std.proofs.Common.{get_or}
-use Rattle.block.specs.Laws.Loops.{Storing}
-use Rattle.block.proofs.store_listed.Given as goal
-
-abbrev pub invariant-loop-rest : goal.invariant-loop-rest
-invariant-loop-rest l = Storing (λ r. get_or l.values r 0) l.initial.mem l.initial.a l.initial.rest l.mem l.rest l.a l.i
-
-abbrev pub decreases-loop-rest : goal.decreases-loop-rest
-decreases-loop-rest l = l.rest
