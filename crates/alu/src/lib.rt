@@ -66,6 +66,7 @@ pub fn sub_with_flags(a: u32, b: u32) -> Sum
     sbc_with_flags(a, b, true)
 }
 
+// Not by `clamp`: that asks for low ≤ high, which each caller would have to prove.
 fn saturate(z: i64, low: i64, high: i64) -> Fitted
     ensures { result ≡ saturated_of low high z }
 {

@@ -203,6 +203,7 @@ fn combine_bytes(variant: Variant, sub: bool, x: u8, y: u8) -> Lane
     combine(variant, 8, sub, u32::from(x), u32::from(y))
 }
 
+// Bytes are written out here and below, as the definitions have them: with `from_fn` the proof of what its four calls gave did not close.
 fn bytewise(variant: Variant, sub: bool, n: [u8; 4], m: [u8; 4]) -> Combined
     ensures { (result ≡ bytewise_of variant sub n m) × IfSome result.ge (λ ge. ge < 16) }
 {
@@ -387,7 +388,7 @@ fn beside(low: Fitted, high: Fitted) -> Fitted
     }
 }
 
-// SSAT16 and USAT16.
+// SSAT16 and USAT16: two functions, since the widths that they take differ.
 pub fn ssat16(width: u32, x: u32) -> Fitted
     requires { (0 < width) × (width ≤ 16) }
     ensures { result ≡ ssat16_of width x }

@@ -25,7 +25,7 @@ pub fn mul(m: u32, s: u32) -> u32
 pub fn mla(m: u32, s: u32, n: u32) -> u32
     ensures { result ≡ mla_of m s n }
 {
-    ((bits::widening_mul(m, s) + n as u64) % 0x1_0000_0000) as u32
+    m.wrapping_mul(s).wrapping_add(n)
 }
 
 fn halve(w: u64) -> Long
