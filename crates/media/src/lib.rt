@@ -93,7 +93,7 @@ fn pkh(regs: &mut [u32; 16], op: u32) -> Outcome
     }
 }
 
-// SSAT, USAT.
+// SSAT, USAT; not one function with the next, since the operand and the width have other fields.
 fn saturate32(regs: &mut [u32; 16], op: u32) -> Outcome
     ensures { (result, regs.new) ≡ saturate_of regs.old op }
 {
@@ -170,22 +170,14 @@ fn select(regs: &mut [u32; 16], op: u32, ge: u8) -> Outcome
 fn reverse(regs: &mut [u32; 16], op: u32) -> Outcome
     ensures { (result, regs.new) ≡ reversal_of regs.old op }
 {
-    let rev = (op / 1048576 % 8 == 3) & (op / 32 % 8 == 1);
-    let rev16 = (op / 1048576 % 8 == 3) & (op / 32 % 8 == 5);
-    let rbit = (op / 1048576 % 8 == 7) & (op / 32 % 8 == 1);
-    let revsh = (op / 1048576 % 8 == 7) & (op / 32 % 8 == 5);
     let rd = op / 4096 % 16;
     let m = regs[(op % 16) as usize];
-    if rev {
-        cpu::put(regs, rd, bits::swap_bytes(m))
-    } else if rev16 {
-        cpu::put(regs, rd, bits::swap_bytes_in_halves(m))
-    } else if rbit {
-        cpu::put(regs, rd, bits::reverse_bits(m))
-    } else if revsh {
-        cpu::put(regs, rd, bits::swap_low_half(m))
-    } else {
-        cpu::refuse(regs, op)
+    match (op / 1048576 % 8, op / 32 % 8) {
+        (3, 1) => cpu::put(regs, rd, bits::swap_bytes(m)),
+        (3, 5) => cpu::put(regs, rd, bits::swap_bytes_in_halves(m)),
+        (7, 1) => cpu::put(regs, rd, bits::reverse_bits(m)),
+        (7, 5) => cpu::put(regs, rd, bits::swap_low_half(m)),
+        _ => cpu::refuse(regs, op),
     }
 }
 
