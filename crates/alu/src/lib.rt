@@ -13,23 +13,24 @@ pub struct Sum {
     pub overflow: bool,
 }
 
+// An exact result brought into a word, clamped or wrapped; q: it did not fit, and Q is set where the instruction has one.
 #[derive(Clone, Copy)]
-pub struct Saturated {
+pub struct Fitted {
     pub value: u32,
-    pub saturated: bool,
+    pub q: bool,
 }
 
 // A word with its sign bit turned over: its signed reading and 2^31 more, so that signed order is the order of naturals.
 fn lift(x: u32) -> u64
     ensures { (result ≡ lifted 32 x) × (result < 4294967296) }
 {
-    (x as u64 + 0x8000_0000) % 0x1_0000_0000
+    u64::from(x.wrapping_add(0x8000_0000))
 }
 
 pub fn adc_with_flags(a: u32, b: u32, c: bool) -> Sum
     ensures { result ≡ adc_of a b c }
 {
-    let more = bits::bit_of(c) as u64;
+    let more = u64::from(c);
     let wide = a as u64 + b as u64 + more;
     let lifted = lift(a) + lift(b) + more;
     Sum {
@@ -43,7 +44,7 @@ pub fn adc_with_flags(a: u32, b: u32, c: bool) -> Sum
 pub fn sbc_with_flags(a: u32, b: u32, c: bool) -> Sum
     ensures { result ≡ sbc_of a b c }
 {
-    let more = bits::bit_of(c) as u64;
+    let more = u64::from(c);
     let raised = a as u64 + 0xFFFF_FFFF - b as u64 + more;
     let lifted = lift(a) + 0xFFFF_FFFF - lift(b) + more;
     Sum {
@@ -65,28 +66,29 @@ pub fn sub_with_flags(a: u32, b: u32) -> Sum
     sbc_with_flags(a, b, true)
 }
 
-fn saturate(z: i64, low: i64, high: i64) -> Saturated
+// Not by `clamp`: that asks for low ≤ high, which each caller would have to prove.
+fn saturate(z: i64, low: i64, high: i64) -> Fitted
     ensures { result ≡ saturated_of low high z }
 {
     if z < low {
-        Saturated {
+        Fitted {
             value: bits::wrap_word(low),
-            saturated: true,
+            q: true,
         }
     } else if high < z {
-        Saturated {
+        Fitted {
             value: bits::wrap_word(high),
-            saturated: true,
+            q: true,
         }
     } else {
-        Saturated {
+        Fitted {
             value: bits::wrap_word(z),
-            saturated: false,
+            q: false,
         }
     }
 }
 
-pub fn signed_saturate(z: i64, width: u32) -> Saturated
+pub fn signed_saturate(z: i64, width: u32) -> Fitted
     requires { (0 < width) × (width ≤ 32) }
     ensures { result ≡ signed_sat_of width z }
 {
@@ -94,14 +96,14 @@ pub fn signed_saturate(z: i64, width: u32) -> Saturated
     saturate(z, 0 - top, top - 1)
 }
 
-pub fn unsigned_saturate(z: i64, width: u32) -> Saturated
+pub fn unsigned_saturate(z: i64, width: u32) -> Fitted
     requires { width < 32 }
     ensures { result ≡ unsigned_sat_of width z }
 {
     saturate(z, 0, bits::power(width) as i64 - 1)
 }
 
-pub fn saturate_i32(z: i64) -> Saturated
+pub fn saturate_i32(z: i64) -> Fitted
     ensures { result ≡ signed_sat_of 32 z }
 {
     signed_saturate(z, 32)

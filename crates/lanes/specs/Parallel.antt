@@ -1,10 +1,11 @@
 -- Parallel add and subtract (DDI 0100I, A4.1): a lane of k bits in the six variants, and the lanes that each operation combines.
 use Rattle.std.specs.Prelude.{Bool, true, false, List, [], ◌∷◌, ℕ, ◌+◌, ◌*◌, ◌%◌, ◌^◌, ℤ, pos, ◌+ℤ◌, ◌-ℤ◌, get_or}
+use Rattle.std.specs.Bool.{then_some}
 use Rattle.std.specs.Int.Signed.{le_z, shr_z}
 use Rattle.bits.specs.Cases.{when◌then◌else◌}
 use Rattle.bits.specs.Fields.{◌⟨◌‥◌⟩, bit_of}
 use Rattle.bits.specs.Integers.{signed, wrap}
-use Rattle.alu.specs.declared.Saturated.{Saturated}
+use Rattle.alu.specs.declared.Fitted.{Fitted}
 use Rattle.alu.specs.Saturation.{signed_sat_of, unsigned_sat_of}
 use Rattle.lanes.specs.declared.Variant.{Variant}
 use Rattle.lanes.specs.declared.Variant.TheVariants.{Signed, Saturating, SignedHalving, Unsigned, UnsignedSaturating, UnsignedHalving}
@@ -29,7 +30,7 @@ abbrev pub wrapped_of : ℕ → ℕ → ℤ → Lane
 wrapped_of k from z = record { value = wrap k z; ge = le_z (pos from) z }
 
 -- what SignedSat or UnsignedSat gives, in the lane; no GE
-abbrev pub kept_of : ℕ → Saturated → Lane
+abbrev pub kept_of : ℕ → Fitted → Lane
 kept_of k s = record { value = s.value % 2 ^ k; ge = false }
 
 -- sum[k:1] of the exact result, which is its half rounded down; no GE
@@ -69,22 +70,20 @@ high_of w = get_or w 2 0 + get_or w 3 0 * 2 ^ 8
 abbrev pub ge_of : Bool → Bool → Bool → Bool → ℕ
 ge_of a b c d = bit_of a + bit_of b * 2 + bit_of c * 4 + bit_of d * 8
 
--- two halfword lanes: the low one's GE is GE[1:0], the high one's GE[3:2]
+-- two halfword lanes: the low one's GE is GE[1:0], the high one's GE[3:2]; GE where the variant sets it
 unfoldable pub halves_of : Variant → Lane → Lane → Combined
 halves_of v low high =
     record {
       lanes = low.value ⟨ 7 ‥ 0 ⟩ ∷ low.value ⟨ 15 ‥ 8 ⟩ ∷ high.value ⟨ 7 ‥ 0 ⟩ ∷ high.value ⟨ 15 ‥ 8 ⟩ ∷ [];
-      ge = ge_of low.ge low.ge high.ge high.ge;
-      sets = sets_ge v;
+      ge = then_some (sets_ge v) (ge_of low.ge low.ge high.ge high.ge);
     }
 
--- four byte lanes
+-- four byte lanes; GE likewise
 unfoldable pub bytes_of : Variant → Lane → Lane → Lane → Lane → Combined
 bytes_of v a b c d =
     record {
       lanes = a.value ∷ b.value ∷ c.value ∷ d.value ∷ [];
-      ge = ge_of a.ge b.ge c.ge d.ge;
-      sets = sets_ge v;
+      ge = then_some (sets_ge v) (ge_of a.ge b.ge c.ge d.ge);
     }
 
 -- each byte of n with the same byte of m

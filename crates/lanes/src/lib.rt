@@ -1,14 +1,16 @@
 // The arithmetic of the media instructions on numbers and on four byte lanes: parallel sums, selection, packing, extension, saturation.
 #![tactic(auto)]
 
-ghost use Rattle.std.specs.Prelude.{◌≡◌, pos, ◌+ℤ◌, ◌+◌, ◌*◌, ◌%◌, ◌^◌, ◌<◌, ◌≤◌};
+ghost use Rattle.std.specs.Prelude.{◌≡◌, pos, ◌+ℤ◌, ◌+◌, ◌*◌, ◌%◌, ◌^◌, ◌<◌, ◌≤◌, IfSome};
 ghost use Rattle.bits.specs.Cases.{when◌then◌else◌};
-ghost use Rattle.bits.specs.Integers.{signed, wrap};
+ghost use Rattle.bits.specs.Integers.{wrap};
 ghost use Rattle.bits.specs.Laws.Range.{Within};
 ghost use Rattle.lanes.specs.Parallel.{result_of, signed_of, unsigned_of, wrapped_of, kept_of, halved_of, unsigned_from, lane_of, sets_ge, ge_of, halves_of, bytes_of, bytewise_of, parallel_of};
-ghost use Rattle.lanes.specs.Bytes.{sel_of, distance, distances_of, usad8_of, usada8_of};
+ghost use Rattle.lanes.specs.Bytes.{sel_of, distances_of, usad8_of, usada8_of};
 ghost use Rattle.lanes.specs.Packing.{pkhbt_of, pkhtb_of, added_halves, added_of, extend_of};
 ghost use Rattle.lanes.specs.Saturation.{ssat_of, usat_of, ssat16_of, usat16_of, beside_of};
+
+use alu::Fitted;
 
 // The manual's prefixes S, Q, SH, U, UQ, UH.
 #[derive(Clone, Copy)]
@@ -48,19 +50,11 @@ pub struct Lane {
     pub ge: bool,
 }
 
-// Four byte lanes, the lowest first; GE, and whether the variant sets it.
+// Four byte lanes, the lowest first; GE where the variant sets it.
 #[derive(Clone, Copy)]
 pub struct Combined {
     pub lanes: [u8; 4],
-    pub ge: u8,
-    pub sets: bool,
-}
-
-fn low_bits(width: u32, x: u32) -> u32
-    requires { width ≤ 32 }
-    ensures { (result ≡ x % 2 ^ width) × (result < 2 ^ width) }
-{
-    (x as u64 % bits::power(width)) as u32
+    pub ge: Option<u8>,
 }
 
 // An integer modulo 2^width.
@@ -68,19 +62,7 @@ fn wrap_bits(width: u32, z: i64) -> u32
     requires { width ≤ 32 }
     ensures { (result ≡ wrap width z) × (result < 2 ^ width) }
 {
-    low_bits(width, bits::wrap_word(z))
-}
-
-// The signed reading of a lane.
-fn read_signed(width: u32, x: u32) -> i64
-    requires { (0 < width) × (width ≤ 16) × (x < 2 ^ width) }
-    ensures { (result ≡ signed width x) × Within 4294967296 result }
-{
-    if (x as u64) < bits::power(width - 1) {
-        x as i64
-    } else {
-        x as i64 - bits::power(width) as i64
-    }
+    bits::low_bits(bits::wrap_word(z), width)
 }
 
 fn add_or_subtract(sub: bool, p: i64, q: i64) -> i64
@@ -94,13 +76,13 @@ fn combine_signed(width: u32, sub: bool, x: u32, y: u32) -> i64
     requires { (0 < width) × (width ≤ 16) × (x < 2 ^ width) × (y < 2 ^ width) }
     ensures { result ≡ signed_of width sub x y }
 {
-    add_or_subtract(sub, read_signed(width, x), read_signed(width, y))
+    add_or_subtract(sub, bits::signed(x, width), bits::signed(y, width))
 }
 
 fn combine_unsigned(sub: bool, x: u32, y: u32) -> i64
     ensures { result ≡ unsigned_of sub x y }
 {
-    add_or_subtract(sub, x as i64, y as i64)
+    add_or_subtract(sub, i64::from(x), i64::from(y))
 }
 
 // The exact result modulo 2^width; GE where it is not below `from`.
@@ -115,12 +97,12 @@ fn wrap_lane(width: u32, z: i64, from: u64) -> Lane
 }
 
 // A saturated result in its lane.
-fn keep_lane(width: u32, kept: alu::Saturated) -> Lane
+fn keep_lane(width: u32, kept: Fitted) -> Lane
     requires { width ≤ 16 }
     ensures { (result ≡ kept_of width kept) × (result.value < 2 ^ width) }
 {
     Lane {
-        value: low_bits(width, kept.value),
+        value: bits::low_bits(kept.value, width),
         ge: false,
     }
 }
@@ -175,31 +157,24 @@ fn combine(variant: Variant, width: u32, sub: bool, x: u32, y: u32) -> Lane
 fn half_of(low: u8, high: u8) -> u32
     ensures { (result ≡ low + high * 2 ^ 8) × (result < 2 ^ 16) }
 {
-    low as u32 + high as u32 * 256
+    u32::from(u16::from_le_bytes([low, high]))
 }
 
 fn join_ge(a: bool, b: bool, c: bool, d: bool) -> u8
     ensures { (result ≡ ge_of a b c d) × (result < 16) }
 {
-    (bits::bit_of(a) + bits::bit_of(b) * 2 + bits::bit_of(c) * 4 + bits::bit_of(d) * 8) as u8
+    u8::from(a) + u8::from(b) * 2 + u8::from(c) * 4 + u8::from(d) * 8
 }
 
 // S and U set GE.
 pub fn sets_ge(variant: Variant) -> bool
     ensures { result ≡ sets_ge variant }
 {
-    match variant {
-        Variant::Signed => true,
-        Variant::Saturating => false,
-        Variant::SignedHalving => false,
-        Variant::Unsigned => true,
-        Variant::UnsignedSaturating => false,
-        Variant::UnsignedHalving => false,
-    }
+    matches!(variant, Variant::Signed | Variant::Unsigned)
 }
 
 fn join_halves(variant: Variant, low: Lane, high: Lane) -> Combined
-    ensures { (result ≡ halves_of variant low high) × (result.ge < 16) }
+    ensures { (result ≡ halves_of variant low high) × IfSome result.ge (λ ge. ge < 16) }
 {
     Combined {
         lanes: [
@@ -208,30 +183,29 @@ fn join_halves(variant: Variant, low: Lane, high: Lane) -> Combined
             (high.value % 256) as u8,
             (high.value / 256 % 256) as u8,
         ],
-        ge: join_ge(low.ge, low.ge, high.ge, high.ge),
-        sets: sets_ge(variant),
+        ge: sets_ge(variant).then_some(join_ge(low.ge, low.ge, high.ge, high.ge)),
     }
 }
 
 fn join_bytes(variant: Variant, a: Lane, b: Lane, c: Lane, d: Lane) -> Combined
     requires { (a.value < 2 ^ 8) × (b.value < 2 ^ 8) × (c.value < 2 ^ 8) × (d.value < 2 ^ 8) }
-    ensures { (result ≡ bytes_of variant a b c d) × (result.ge < 16) }
+    ensures { (result ≡ bytes_of variant a b c d) × IfSome result.ge (λ ge. ge < 16) }
 {
     Combined {
         lanes: [a.value as u8, b.value as u8, c.value as u8, d.value as u8],
-        ge: join_ge(a.ge, b.ge, c.ge, d.ge),
-        sets: sets_ge(variant),
+        ge: sets_ge(variant).then_some(join_ge(a.ge, b.ge, c.ge, d.ge)),
     }
 }
 
 fn combine_bytes(variant: Variant, sub: bool, x: u8, y: u8) -> Lane
     ensures { (result ≡ lane_of variant 8 sub x y) × (result.value < 2 ^ 8) }
 {
-    combine(variant, 8, sub, x as u32, y as u32)
+    combine(variant, 8, sub, u32::from(x), u32::from(y))
 }
 
+// Bytes are written out here and below, as the definitions have them: with `from_fn` the proof of what its four calls gave did not close.
 fn bytewise(variant: Variant, sub: bool, n: [u8; 4], m: [u8; 4]) -> Combined
-    ensures { (result ≡ bytewise_of variant sub n m) × (result.ge < 16) }
+    ensures { (result ≡ bytewise_of variant sub n m) × IfSome result.ge (λ ge. ge < 16) }
 {
     join_bytes(
         variant,
@@ -253,7 +227,7 @@ fn halfwise(
     t: u32,
 ) -> Combined
     requires { (p < 2 ^ 16) × (q < 2 ^ 16) × (s < 2 ^ 16) × (t < 2 ^ 16) }
-    ensures { (result ≡ halves_of variant (lane_of variant 16 sublow p q) (lane_of variant 16 subhigh s t)) × (result.ge < 16) }
+    ensures { (result ≡ halves_of variant (lane_of variant 16 sublow p q) (lane_of variant 16 subhigh s t)) × IfSome result.ge (λ ge. ge < 16) }
 {
     let low = combine(variant, 16, sublow, p, q);
     let high = combine(variant, 16, subhigh, s, t);
@@ -262,7 +236,7 @@ fn halfwise(
 
 // The parallel add and subtract instructions, on the bytes of Rn and Rm.
 pub fn parallel(variant: Variant, operation: Operation, n: [u8; 4], m: [u8; 4]) -> Combined
-    ensures { (result ≡ parallel_of variant operation n m) × (result.ge < 16) }
+    ensures { (result ≡ parallel_of variant operation n m) × IfSome result.ge (λ ge. ge < 16) }
 {
     let p = half_of(n[0], n[1]);
     let q = half_of(m[0], m[1]);
@@ -296,28 +270,22 @@ pub fn select(ge: u8, n: [u8; 4], m: [u8; 4]) -> [u8; 4]
     ]
 }
 
-fn absolute_difference(x: u8, y: u8) -> u8
-    ensures { result ≡ distance x y }
-{
-    if x < y { y - x } else { x - y }
-}
-
 // The distance of each byte of Rm to that of Rs.
 pub fn measure(m: [u8; 4], s: [u8; 4]) -> [u8; 4]
     ensures { result ≡ distances_of m s }
 {
     [
-        absolute_difference(m[0], s[0]),
-        absolute_difference(m[1], s[1]),
-        absolute_difference(m[2], s[2]),
-        absolute_difference(m[3], s[3]),
+        m[0].abs_diff(s[0]),
+        m[1].abs_diff(s[1]),
+        m[2].abs_diff(s[2]),
+        m[3].abs_diff(s[3]),
     ]
 }
 
 fn sum_bytes(a: u8, b: u8, c: u8, d: u8) -> u32
     ensures { (result ≡ a + b + c + d) × (result ≤ 1020) }
 {
-    a as u32 + b as u32 + c as u32 + d as u32
+    u32::from(a) + u32::from(b) + u32::from(c) + u32::from(d)
 }
 
 // USAD8, of the bytes of Rm and Rs.
@@ -332,7 +300,7 @@ pub fn usad8(m: [u8; 4], s: [u8; 4]) -> u32
 pub fn usada8(m: [u8; 4], s: [u8; 4], n: u32) -> u32
     ensures { result ≡ usada8_of m s n }
 {
-    bits::wrapping_add(n, usad8(m, s))
+    n.wrapping_add(usad8(m, s))
 }
 
 // PKHBT, with the shifted Rm.
@@ -346,7 +314,7 @@ pub fn pkhbt(n: u32, m: u32) -> u32
 pub fn pkhtb(n: u32, m: u32) -> u32
     ensures { result ≡ pkhtb_of n m }
 {
-    m % 65536 + n / 65536 % 65536 * 65536
+    pkhbt(m, n)
 }
 
 // A number added to a word or a half.
@@ -354,7 +322,7 @@ fn accumulate(width: u32, n: u32, z: i64) -> u32
     requires { (width ≤ 32) × Within 65536 z }
     ensures { (result ≡ wrap width (pos n +ℤ z)) × (result < 2 ^ width) }
 {
-    wrap_bits(width, n as i64 + z)
+    wrap_bits(width, i64::from(n) + z)
 }
 
 fn accumulate_halves(n: u32, low: i64, high: i64) -> u32
@@ -371,15 +339,19 @@ fn add_extended(extension: Extension, n: u32, m: u32) -> u32
 {
     match extension {
         Extension::Sxtab16 => {
-            let low = bits::signed_byte((m % 256) as u8);
-            let high = bits::signed_byte((m / 65536 % 256) as u8);
+            let low = bits::signed(m, 8);
+            let high = bits::signed(m / 65536, 8);
             accumulate_halves(n, low, high)
         }
-        Extension::Sxtab => accumulate(32, n, bits::signed_byte((m % 256) as u8)),
-        Extension::Sxtah => accumulate(32, n, bits::signed_half((m % 65536) as u16)),
-        Extension::Uxtab16 => accumulate_halves(n, (m % 256) as i64, (m / 65536 % 256) as i64),
-        Extension::Uxtab => bits::wrapping_add(n, m % 256),
-        Extension::Uxtah => bits::wrapping_add(n, m % 65536),
+        Extension::Sxtab => accumulate(32, n, bits::signed(m, 8)),
+        Extension::Sxtah => accumulate(32, n, bits::signed(m, 16)),
+        Extension::Uxtab16 => {
+            let low = i64::from(m % 256);
+            let high = i64::from(m / 65536 % 256);
+            accumulate_halves(n, low, high)
+        }
+        Extension::Uxtab => n.wrapping_add(m % 256),
+        Extension::Uxtah => n.wrapping_add(m % 65536),
     }
 }
 
@@ -392,45 +364,45 @@ pub fn extend(extension: Extension, n: u32, m: u32, rotate: u32) -> u32
 }
 
 // SSAT and USAT, of the shifted operand.
-pub fn ssat(width: u32, x: u32) -> alu::Saturated
+pub fn ssat(width: u32, x: u32) -> Fitted
     requires { (0 < width) × (width ≤ 32) }
     ensures { result ≡ ssat_of width x }
 {
-    alu::signed_saturate(bits::signed_word(x), width)
+    alu::signed_saturate(bits::signed(x, 32), width)
 }
 
-pub fn usat(width: u32, x: u32) -> alu::Saturated
+pub fn usat(width: u32, x: u32) -> Fitted
     requires { width < 32 }
     ensures { result ≡ usat_of width x }
 {
-    alu::unsigned_saturate(bits::signed_word(x), width)
+    alu::unsigned_saturate(bits::signed(x, 32), width)
 }
 
 // Two halves side by side, saturated if either is.
-fn beside(low: alu::Saturated, high: alu::Saturated) -> alu::Saturated
+fn beside(low: Fitted, high: Fitted) -> Fitted
     ensures { result ≡ beside_of low high }
 {
-    alu::Saturated {
+    Fitted {
         value: low.value % 65536 + high.value % 65536 * 65536,
-        saturated: low.saturated | high.saturated,
+        q: low.q | high.q,
     }
 }
 
-// SSAT16 and USAT16.
-pub fn ssat16(width: u32, x: u32) -> alu::Saturated
+// SSAT16 and USAT16: two functions, since the widths that they take differ.
+pub fn ssat16(width: u32, x: u32) -> Fitted
     requires { (0 < width) × (width ≤ 16) }
     ensures { result ≡ ssat16_of width x }
 {
-    let low = alu::signed_saturate(bits::signed_half((x % 65536) as u16), width);
-    let high = alu::signed_saturate(bits::signed_half((x / 65536 % 65536) as u16), width);
+    let low = alu::signed_saturate(bits::signed(x, 16), width);
+    let high = alu::signed_saturate(bits::signed(x / 65536, 16), width);
     beside(low, high)
 }
 
-pub fn usat16(width: u32, x: u32) -> alu::Saturated
+pub fn usat16(width: u32, x: u32) -> Fitted
     requires { width < 16 }
     ensures { result ≡ usat16_of width x }
 {
-    let low = alu::unsigned_saturate(bits::signed_half((x % 65536) as u16), width);
-    let high = alu::unsigned_saturate(bits::signed_half((x / 65536 % 65536) as u16), width);
+    let low = alu::unsigned_saturate(bits::signed(x, 16), width);
+    let high = alu::unsigned_saturate(bits::signed(x / 65536, 16), width);
     beside(low, high)
 }

@@ -2,51 +2,51 @@
 #![tactic(auto)]
 
 ghost use Rattle.std.specs.Prelude.{◌≡◌, ◌<◌};
-ghost use Rattle.media.specs.Media.{variant_of, operation_of, combined_of, parallel_family_of, shifted_of, packed_of, saturated_in, saturate_of, saturate16_of, extension_of, addend_of, extend_family_of, selected_of, reversal_of, packing_of, marked_in, long_in, dual_word_of, dual_long_of, most_word_of, dual_multiply_of, usad_of, media_of};
+ghost use Rattle.media.specs.Media.{variant_of, operation_of, combined_of, parallel_family_of, shifted_of, packed_of, saturate_of, saturate16_of, extension_of, addend_of, extend_family_of, selected_of, reversal_of, packing_of, dual_word_of, dual_long_of, most_word_of, dual_multiply_of, usad_of, media_of};
 
-use alu::Saturated;
 use cpu::Outcome;
 use lanes::{Combined, Extension, Operation, Variant};
-use products::{Long, Sticky};
 use shifter::ShiftType;
 
-fn variant_of(k: u32) -> Variant
+fn variant_of(k: u32) -> Option<Variant>
     ensures { result ≡ variant_of k }
 {
     match k {
-        1 => Variant::Signed,
-        2 => Variant::Saturating,
-        3 => Variant::SignedHalving,
-        5 => Variant::Unsigned,
-        6 => Variant::UnsignedSaturating,
-        _ => Variant::UnsignedHalving,
+        1 => Some(Variant::Signed),
+        2 => Some(Variant::Saturating),
+        3 => Some(Variant::SignedHalving),
+        5 => Some(Variant::Unsigned),
+        6 => Some(Variant::UnsignedSaturating),
+        7 => Some(Variant::UnsignedHalving),
+        _ => None,
     }
 }
 
-fn operation_of(k: u32) -> Operation
+fn operation_of(k: u32) -> Option<Operation>
     ensures { result ≡ operation_of k }
 {
     match k {
-        0 => Operation::Add16,
-        1 => Operation::Asx,
-        2 => Operation::Sax,
-        3 => Operation::Sub16,
-        4 => Operation::Add8,
-        _ => Operation::Sub8,
+        0 => Some(Operation::Add16),
+        1 => Some(Operation::Asx),
+        2 => Some(Operation::Sax),
+        3 => Some(Operation::Sub16),
+        4 => Some(Operation::Add8),
+        7 => Some(Operation::Sub8),
+        _ => None,
     }
 }
 
 fn put_combined(regs: &mut [u32; 16], op: u32, x: Combined) -> Outcome
     ensures { (result, regs.new) ≡ combined_of regs.old op x }
 {
-    let parts = x.lanes;
-    let value = bits::join(parts);
-    if x.sets {
-        regs[(op / 4096 % 16) as usize] = value;
-        regs[15] = bits::wrapping_sub(regs[15], 4);
-        cpu::set_lanes(x.ge)
-    } else {
-        cpu::put(regs, op / 4096 % 16, value)
+    let value = u32::from_le_bytes(x.lanes);
+    match x.ge {
+        Some(ge) => {
+            regs[(op / 4096 % 16) as usize] = value;
+            regs[15] = regs[15].wrapping_sub(4);
+            cpu::set_lanes(ge)
+        }
+        None => cpu::put(regs, op / 4096 % 16, value),
     }
 }
 
@@ -54,15 +54,16 @@ fn put_combined(regs: &mut [u32; 16], op: u32, x: Combined) -> Outcome
 fn parallel(regs: &mut [u32; 16], op: u32) -> Outcome
     ensures { (result, regs.new) ≡ parallel_family_of regs.old op }
 {
-    let allocated = !(op / 1048576 % 4 == 0) & ((op / 32 % 8 < 5) | (op / 32 % 8 == 7));
-    if allocated {
-        let n = bits::split(regs[(op / 65536 % 16) as usize]);
-        let m = bits::split(regs[(op % 16) as usize]);
-        let variant = variant_of(op / 1048576 % 8);
-        let x = lanes::parallel(variant, operation_of(op / 32 % 8), n, m);
-        put_combined(regs, op, x)
-    } else {
-        cpu::refuse(regs, op)
+    let variant = variant_of(op / 1048576 % 8);
+    let operation = operation_of(op / 32 % 8);
+    match (variant, operation) {
+        (Some(variant), Some(operation)) => {
+            let n = regs[(op / 65536 % 16) as usize].to_le_bytes();
+            let m = regs[(op % 16) as usize].to_le_bytes();
+            let x = lanes::parallel(variant, operation, n, m);
+            put_combined(regs, op, x)
+        }
+        _ => cpu::refuse(regs, op),
     }
 }
 
@@ -92,23 +93,15 @@ fn pkh(regs: &mut [u32; 16], op: u32) -> Outcome
     }
 }
 
-fn put_saturated(regs: &mut [u32; 16], op: u32, x: Saturated) -> Outcome
-    ensures { (result, regs.new) ≡ saturated_in regs.old op x }
-{
-    regs[(op / 4096 % 16) as usize] = x.value;
-    regs[15] = bits::wrapping_sub(regs[15], 4);
-    cpu::set_sticky(x.saturated)
-}
-
-// SSAT, USAT.
+// SSAT, USAT; not one function with the next, since the operand and the width have other fields.
 fn saturate32(regs: &mut [u32; 16], op: u32) -> Outcome
     ensures { (result, regs.new) ≡ saturate_of regs.old op }
 {
     let m = shift(regs, op);
     if op / 4194304 % 2 == 1 {
-        put_saturated(regs, op, lanes::usat(op / 65536 % 32, m))
+        multiply::mark(regs, op / 4096 % 16, lanes::usat(op / 65536 % 32, m))
     } else {
-        put_saturated(regs, op, lanes::ssat(op / 65536 % 32 + 1, m))
+        multiply::mark(regs, op / 4096 % 16, lanes::ssat(op / 65536 % 32 + 1, m))
     }
 }
 
@@ -118,22 +111,23 @@ fn saturate16(regs: &mut [u32; 16], op: u32) -> Outcome
 {
     let m = regs[(op % 16) as usize];
     if op / 4194304 % 2 == 1 {
-        put_saturated(regs, op, lanes::usat16(op / 65536 % 16, m))
+        multiply::mark(regs, op / 4096 % 16, lanes::usat16(op / 65536 % 16, m))
     } else {
-        put_saturated(regs, op, lanes::ssat16(op / 65536 % 16 + 1, m))
+        multiply::mark(regs, op / 4096 % 16, lanes::ssat16(op / 65536 % 16 + 1, m))
     }
 }
 
-fn extension_of(k: u32) -> Extension
+fn extension_of(k: u32) -> Option<Extension>
     ensures { result ≡ extension_of k }
 {
     match k {
-        0 => Extension::Sxtab16,
-        2 => Extension::Sxtab,
-        3 => Extension::Sxtah,
-        4 => Extension::Uxtab16,
-        6 => Extension::Uxtab,
-        _ => Extension::Uxtah,
+        0 => Some(Extension::Sxtab16),
+        2 => Some(Extension::Sxtab),
+        3 => Some(Extension::Sxtah),
+        4 => Some(Extension::Uxtab16),
+        6 => Some(Extension::Uxtab),
+        7 => Some(Extension::Uxtah),
+        _ => None,
     }
 }
 
@@ -151,13 +145,14 @@ fn addend(regs: &[u32; 16], op: u32) -> u32
 fn extend(regs: &mut [u32; 16], op: u32) -> Outcome
     ensures { (result, regs.new) ≡ extend_family_of regs.old op }
 {
-    if op / 1048576 % 4 == 1 {
-        cpu::refuse(regs, op)
-    } else {
-        let n = addend(regs, op);
-        let m = regs[(op % 16) as usize];
-        let value = lanes::extend(extension_of(op / 1048576 % 8), n, m, op / 1024 % 4);
-        cpu::put(regs, op / 4096 % 16, value)
+    match extension_of(op / 1048576 % 8) {
+        Some(extension) => {
+            let n = addend(regs, op);
+            let m = regs[(op % 16) as usize];
+            let value = lanes::extend(extension, n, m, op / 1024 % 4);
+            cpu::put(regs, op / 4096 % 16, value)
+        }
+        None => cpu::refuse(regs, op),
     }
 }
 
@@ -165,9 +160,9 @@ fn extend(regs: &mut [u32; 16], op: u32) -> Outcome
 fn select(regs: &mut [u32; 16], op: u32, ge: u8) -> Outcome
     ensures { (result, regs.new) ≡ selected_of regs.old op ge }
 {
-    let n = bits::split(regs[(op / 65536 % 16) as usize]);
-    let m = bits::split(regs[(op % 16) as usize]);
-    let value = bits::join(lanes::select(ge, n, m));
+    let n = regs[(op / 65536 % 16) as usize].to_le_bytes();
+    let m = regs[(op % 16) as usize].to_le_bytes();
+    let value = u32::from_le_bytes(lanes::select(ge, n, m));
     cpu::put(regs, op / 4096 % 16, value)
 }
 
@@ -175,22 +170,14 @@ fn select(regs: &mut [u32; 16], op: u32, ge: u8) -> Outcome
 fn reverse(regs: &mut [u32; 16], op: u32) -> Outcome
     ensures { (result, regs.new) ≡ reversal_of regs.old op }
 {
-    let rev = (op / 1048576 % 8 == 3) & (op / 32 % 8 == 1);
-    let rev16 = (op / 1048576 % 8 == 3) & (op / 32 % 8 == 5);
-    let rbit = (op / 1048576 % 8 == 7) & (op / 32 % 8 == 1);
-    let revsh = (op / 1048576 % 8 == 7) & (op / 32 % 8 == 5);
     let rd = op / 4096 % 16;
     let m = regs[(op % 16) as usize];
-    if rev {
-        cpu::put(regs, rd, bits::swap_bytes(m))
-    } else if rev16 {
-        cpu::put(regs, rd, bits::swap_bytes_in_halves(m))
-    } else if rbit {
-        cpu::put(regs, rd, bits::reverse_bits(m))
-    } else if revsh {
-        cpu::put(regs, rd, bits::swap_low_half(m))
-    } else {
-        cpu::refuse(regs, op)
+    match (op / 1048576 % 8, op / 32 % 8) {
+        (3, 1) => cpu::put(regs, rd, bits::swap_bytes(m)),
+        (3, 5) => cpu::put(regs, rd, bits::swap_bytes_in_halves(m)),
+        (7, 1) => cpu::put(regs, rd, bits::reverse_bits(m)),
+        (7, 5) => cpu::put(regs, rd, bits::swap_low_half(m)),
+        _ => cpu::refuse(regs, op),
     }
 }
 
@@ -223,21 +210,6 @@ fn pack_sat_extend(regs: &mut [u32; 16], op: u32, ge: u8) -> Outcome
     }
 }
 
-fn mark(regs: &mut [u32; 16], op: u32, x: Sticky) -> Outcome
-    ensures { (result, regs.new) ≡ marked_in regs.old op x }
-{
-    regs[(op / 65536 % 16) as usize] = x.value;
-    regs[15] = bits::wrapping_sub(regs[15], 4);
-    cpu::set_sticky(x.q)
-}
-
-fn put_long(regs: &mut [u32; 16], op: u32, x: Long) -> Outcome
-    ensures { (result, regs.new) ≡ long_in regs.old op x }
-{
-    regs[(op / 4096 % 16) as usize] = x.lo;
-    cpu::put(regs, op / 65536 % 16, x.hi)
-}
-
 // SMLAD, SMLSD, SMUAD, SMUSD.
 fn smlad(regs: &mut [u32; 16], op: u32) -> Outcome
     ensures { (result, regs.new) ≡ dual_word_of regs.old op }
@@ -247,10 +219,10 @@ fn smlad(regs: &mut [u32; 16], op: u32) -> Outcome
     let subtract = op / 64 % 2 == 1;
     let x = op / 32 % 2 == 1;
     if op / 4096 % 16 == 15 {
-        mark(regs, op, products::smuad(m, s, subtract, x))
+        multiply::mark(regs, op / 65536 % 16, products::smuad(m, s, subtract, x))
     } else {
         let n = regs[(op / 4096 % 16) as usize];
-        mark(regs, op, products::smlad(m, s, n, subtract, x))
+        multiply::mark(regs, op / 65536 % 16, products::smlad(m, s, n, subtract, x))
     }
 }
 
@@ -263,7 +235,7 @@ fn smlald(regs: &mut [u32; 16], op: u32) -> Outcome
     let lo = regs[(op / 4096 % 16) as usize];
     let hi = regs[(op / 65536 % 16) as usize];
     let sum = products::smlald(m, s, lo, hi, op / 64 % 2 == 1, op / 32 % 2 == 1);
-    put_long(regs, op, sum)
+    multiply::put_long(regs, op, sum)
 }
 
 // SMMLA, SMMLS, SMMUL.
@@ -308,8 +280,8 @@ fn dual_multiply(regs: &mut [u32; 16], op: u32) -> Outcome
 fn usad8(regs: &mut [u32; 16], op: u32) -> Outcome
     ensures { (result, regs.new) ≡ usad_of regs.old op }
 {
-    let m = bits::split(regs[(op % 16) as usize]);
-    let s = bits::split(regs[(op / 256 % 16) as usize]);
+    let m = regs[(op % 16) as usize].to_le_bytes();
+    let s = regs[(op / 256 % 16) as usize].to_le_bytes();
     if op / 4096 % 16 == 15 {
         cpu::put(regs, op / 65536 % 16, lanes::usad8(m, s))
     } else {

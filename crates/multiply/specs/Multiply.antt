@@ -2,9 +2,9 @@
 use Rattle.std.specs.Prelude.{Bool, ◌&&◌, List, ℕ, get_or, set, ◌==◌}
 use Rattle.bits.specs.Cases.{when◌then◌else◌}
 use Rattle.bits.specs.Fields.{◌⟨◌⟩, ◌⟨◌‥◌⟩}
+use Rattle.alu.specs.declared.Fitted.{Fitted}
 use Rattle.alu.specs.Sums.{negative}
 use Rattle.products.specs.declared.Long.{Long}
-use Rattle.products.specs.declared.Sticky.{Sticky}
 use Rattle.products.specs.Products.{mul_of, mla_of, umull_of, umlal_of, umaal_of, smull_of, smlal_of, smulxy_of, smlaxy_of, smlalxy_of, smulw_of, smlaw_of, qadd_of, qdadd_of}
 use Rattle.cpu.specs.declared.Outcome.{Outcome}
 use Rattle.cpu.specs.Outcomes.{flags, flags_of, nothing, sticky, advanced, put_of}
@@ -67,7 +67,7 @@ long_multiply_of regs op c v =
     else wide_settled_of regs op (wide_of regs op) c v
 
 -- a result in register rd that may set Q
-abbrev pub marked_of : List ℕ → ℕ → Sticky → Outcome × List ℕ
+abbrev pub marked_of : List ℕ → ℕ → Fitted → Outcome × List ℕ
 marked_of regs rd x = (sticky x.q, advanced (set regs rd x.value))
 
 -- A4.1.74 SMLA<x><y>, A4.1.79 SMLAW<y>, A4.1.88 SMULW<y>, A4.1.77 SMLAL<x><y>, A4.1.86 SMUL<x><y>: by bits 22-21; x is bit 5, y bit 6

@@ -4,8 +4,9 @@
 ghost use Rattle.std.specs.Prelude.{◌≡◌, ◌<◌};
 ghost use Rattle.multiply.specs.Multiply.{long_put_of, settled_of, short_of, wide_of, wide_settled_of, long_multiply_of, marked_of, halfword_of, saturating_of};
 
+use alu::Fitted;
 use cpu::Outcome;
-use products::{Long, Sticky};
+use products::Long;
 
 fn settle(regs: &mut [u32; 16], op: u32, value: u32, c: bool, v: bool) -> Outcome
     ensures { (result, regs.new) ≡ settled_of regs.old op value c v }
@@ -13,7 +14,7 @@ fn settle(regs: &mut [u32; 16], op: u32, value: u32, c: bool, v: bool) -> Outcom
     let rd = op / 65536 % 16;
     if op / 1048576 % 2 == 1 {
         regs[rd as usize] = value;
-        regs[15] = bits::wrapping_sub(regs[15], 4);
+        regs[15] = regs[15].wrapping_sub(4);
         cpu::set_flags_of(value, c, v)
     } else {
         cpu::put(regs, rd, value)
@@ -36,7 +37,8 @@ pub fn short(regs: &mut [u32; 16], op: u32, c: bool, v: bool) -> Outcome
     }
 }
 
-fn put_long(regs: &mut [u32; 16], op: u32, x: Long) -> Outcome
+// A long result in RdLo and RdHi.
+pub fn put_long(regs: &mut [u32; 16], op: u32, x: Long) -> Outcome
     ensures { (result, regs.new) ≡ long_put_of regs.old op x }
 {
     regs[(op / 4096 % 16) as usize] = x.lo;
@@ -49,7 +51,7 @@ fn settle_long(regs: &mut [u32; 16], op: u32, x: Long, c: bool, v: bool) -> Outc
     if op / 1048576 % 2 == 1 {
         regs[(op / 4096 % 16) as usize] = x.lo;
         regs[(op / 65536 % 16) as usize] = x.hi;
-        regs[15] = bits::wrapping_sub(regs[15], 4);
+        regs[15] = regs[15].wrapping_sub(4);
         cpu::set_flags(0x8000_0000 <= x.hi, (x.lo == 0) & (x.hi == 0), c, v)
     } else {
         put_long(regs, op, x)
@@ -95,12 +97,13 @@ pub fn long(regs: &mut [u32; 16], op: u32, c: bool, v: bool) -> Outcome
     }
 }
 
-fn mark(regs: &mut [u32; 16], rd: u32, x: Sticky) -> Outcome
+// A result in register rd that may set Q.
+pub fn mark(regs: &mut [u32; 16], rd: u32, x: Fitted) -> Outcome
     requires { rd < 16 }
     ensures { (result, regs.new) ≡ marked_of regs.old rd x }
 {
     regs[rd as usize] = x.value;
-    regs[15] = bits::wrapping_sub(regs[15], 4);
+    regs[15] = regs[15].wrapping_sub(4);
     cpu::set_sticky(x.q)
 }
 

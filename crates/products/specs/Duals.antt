@@ -5,8 +5,8 @@ use Rattle.bits.specs.Cases.{when◌then◌else◌}
 use Rattle.bits.specs.Fields.{bit_of}
 use Rattle.bits.specs.Integers.{signed}
 use Rattle.bits.specs.Words.{rotated_of}
+use Rattle.alu.specs.declared.Fitted.{Fitted}
 use Rattle.products.specs.declared.Long.{Long}
-use Rattle.products.specs.declared.Sticky.{Sticky}
 use Rattle.products.specs.Products.{◌⟦◌‥◌⟧, long_of, pair_of, sticky_of, total_of, half_of}
 
 -- operand2: Rs, or with X Rs Rotate_Right 16
@@ -19,11 +19,11 @@ dual_of m s subtract x =
     total_of (half_of m false *ℤ half_of (second_of s x) false) (half_of m true *ℤ half_of (second_of s x) true) subtract
 
 -- A4.1.85 SMUAD: Q is OverflowFrom of the sum; A4.1.89 SMUSD: the difference always fits (Laws.Manual, smusd_keeps_q)
-unfoldable pub smuad_of : ℕ → ℕ → Bool → Bool → Sticky
+unfoldable pub smuad_of : ℕ → ℕ → Bool → Bool → Fitted
 smuad_of m s subtract x = sticky_of (dual_of m s subtract x)
 
 -- A4.1.75 SMLAD, A4.1.80 SMLSD: Q is OverflowFrom of the whole sum
-unfoldable pub smlad_of : ℕ → ℕ → ℕ → Bool → Bool → Sticky
+unfoldable pub smlad_of : ℕ → ℕ → ℕ → Bool → Bool → Fitted
 smlad_of m s n subtract x = sticky_of (dual_of m s subtract x +ℤ signed 32 n)
 
 -- A4.1.78 SMLALD, A4.1.81 SMLSLD: added to the 64-bit value in RdHi and RdLo

@@ -5,9 +5,9 @@ use Rattle.bits.specs.Cases.{when◌then◌else◌}
 use Rattle.bits.specs.Fields.{◌⟨◌‥◌⟩}
 use Rattle.bits.specs.Integers.{signed, wrap}
 use Rattle.alu.specs.Sums.{overflow_from}
+use Rattle.alu.specs.declared.Fitted.{Fitted}
 use Rattle.alu.specs.Saturation.{signed_sat_of}
 use Rattle.products.specs.declared.Long.{Long}
-use Rattle.products.specs.declared.Sticky.{Sticky}
 
 -- bits hi down to lo of an integer in two's complement, hi below 64
 infixl 90 ◌⟦◌‥◌⟧
@@ -23,7 +23,7 @@ abbrev pub pair_of : ℕ → ℕ → ℕ
 pair_of lo hi = hi * 2 ^ 32 + lo
 
 -- the low 32 bits of an integer; Q is set where it does not fit them
-unfoldable pub sticky_of : ℤ → Sticky
+unfoldable pub sticky_of : ℤ → Fitted
 sticky_of z = record { value = wrap 32 z; q = overflow_from z }
 
 -- x + y, or x - y
@@ -67,7 +67,7 @@ unfoldable pub smulxy_of : ℕ → ℕ → Bool → Bool → ℕ
 smulxy_of m s x y = wrap 32 (half_of m x *ℤ half_of s y)
 
 -- A4.1.74 SMLA<x><y>: operand1 * operand2 + Rn; Q is OverflowFrom of that sum
-unfoldable pub smlaxy_of : ℕ → ℕ → ℕ → Bool → Bool → Sticky
+unfoldable pub smlaxy_of : ℕ → ℕ → ℕ → Bool → Bool → Fitted
 smlaxy_of m s n x y = sticky_of (half_of m x *ℤ half_of s y +ℤ signed 32 n)
 
 -- A4.1.77 SMLAL<x><y>: operand1 * operand2 added to the 64-bit value in RdHi and RdLo
@@ -79,23 +79,19 @@ unfoldable pub smulw_of : ℕ → ℕ → Bool → ℕ
 smulw_of m s y = (signed 32 m *ℤ half_of s y) ⟦ 47 ‥ 16 ⟧
 
 -- A4.1.79 SMLAW<y>: (Rm * operand2)[47:16] + Rn; Q is OverflowFrom of that sum
-unfoldable pub smlaw_of : ℕ → ℕ → ℕ → Bool → Sticky
+unfoldable pub smlaw_of : ℕ → ℕ → ℕ → Bool → Fitted
 smlaw_of m s n y = sticky_of (signed 32 (smulw_of m s y) +ℤ signed 32 n)
 
--- SignedSat(z, 32); Q is SignedDoesSat(z, 32)
-unfoldable pub held_of : ℤ → Sticky
-held_of z = record { value = (signed_sat_of 32 z).value; q = (signed_sat_of 32 z).saturated }
-
--- A4.1.46 QADD, A4.1.52 QSUB: SignedSat(Rm + Rn, 32), SignedSat(Rm - Rn, 32)
-unfoldable pub qadd_of : ℕ → ℕ → Bool → Sticky
-qadd_of m n subtract = held_of (total_of (signed 32 m) (signed 32 n) subtract)
+-- A4.1.46 QADD, A4.1.52 QSUB: SignedSat(Rm + Rn, 32), SignedSat(Rm - Rn, 32); Q is SignedDoesSat
+unfoldable pub qadd_of : ℕ → ℕ → Bool → Fitted
+qadd_of m n subtract = signed_sat_of 32 (total_of (signed 32 m) (signed 32 n) subtract)
 
 -- SignedSat(Rn * 2, 32)
-unfoldable pub doubled_of : ℕ → Sticky
-doubled_of n = held_of (signed 32 n *ℤ pos 2)
+unfoldable pub doubled_of : ℕ → Fitted
+doubled_of n = signed_sat_of 32 (signed 32 n *ℤ pos 2)
 
 -- A4.1.50 QDADD, A4.1.51 QDSUB: the same with SignedSat(Rn * 2, 32) for Rn; Q where either saturates
-unfoldable pub qdadd_of : ℕ → ℕ → Bool → Sticky
+unfoldable pub qdadd_of : ℕ → ℕ → Bool → Fitted
 qdadd_of m n subtract =
     record {
       value = (qadd_of m (doubled_of n).value subtract).value;

@@ -4,8 +4,10 @@
 ghost use Rattle.std.specs.Prelude.{◌≡◌, ◌+◌, ◌*◌, ◌^◌, ◌<◌, pos, ◌+ℤ◌, ◌*ℤ◌};
 ghost use Rattle.bits.specs.Integers.{signed};
 ghost use Rattle.bits.specs.Laws.Range.{Within};
-ghost use Rattle.products.specs.Products.{long_of, pair_of, sticky_of, total_of, mul_of, mla_of, umull_of, umlal_of, umaal_of, smull_of, smlal_of, half_of, smulxy_of, smlaxy_of, smlalxy_of, smulw_of, smlaw_of, held_of, qadd_of, qdadd_of};
+ghost use Rattle.products.specs.Products.{long_of, pair_of, sticky_of, total_of, mul_of, mla_of, umull_of, umlal_of, umaal_of, smull_of, smlal_of, half_of, smulxy_of, smlaxy_of, smlalxy_of, smulw_of, smlaw_of, qadd_of, qdadd_of};
 ghost use Rattle.products.specs.Duals.{second_of, dual_of, smuad_of, smlad_of, smlald_of, most_of, smmul_of, smmla_of};
+
+use alu::Fitted;
 
 // A result of 64 bits.
 #[derive(Clone, Copy)]
@@ -14,23 +16,16 @@ pub struct Long {
     pub hi: u32,
 }
 
-// A word, and whether Q is set; where q is false Q stands.
-#[derive(Clone, Copy)]
-pub struct Sticky {
-    pub value: u32,
-    pub q: bool,
-}
-
 pub fn mul(m: u32, s: u32) -> u32
     ensures { result ≡ mul_of m s }
 {
-    bits::wrapping_mul(m, s)
+    m.wrapping_mul(s)
 }
 
 pub fn mla(m: u32, s: u32, n: u32) -> u32
     ensures { result ≡ mla_of m s n }
 {
-    ((bits::widening_mul(m, s) + n as u64) % 0x1_0000_0000) as u32
+    m.wrapping_mul(s).wrapping_add(n)
 }
 
 fn halve(w: u64) -> Long
@@ -57,7 +52,7 @@ pub fn umull(m: u32, s: u32) -> Long
 pub fn umlal(m: u32, s: u32, lo: u32, hi: u32) -> Long
     ensures { result ≡ umlal_of m s lo hi }
 {
-    halve(std::num::wrapping_add_u64(bits::widening_mul(m, s), pair(lo, hi)))
+    halve(bits::widening_mul(m, s).wrapping_add(pair(lo, hi)))
 }
 
 pub fn umaal(m: u32, s: u32, lo: u32, hi: u32) -> Long
@@ -70,13 +65,13 @@ pub fn umaal(m: u32, s: u32, lo: u32, hi: u32) -> Long
 fn words(m: u32, s: u32) -> i64
     ensures { (result ≡ signed 32 m *ℤ signed 32 s) × Within (2 ^ 62) result }
 {
-    bits::signed_word(m) * bits::signed_word(s)
+    bits::signed(m, 32) * bits::signed(s, 32)
 }
 
 fn accumulate(z: i64, lo: u32, hi: u32) -> Long
     ensures { result ≡ long_of (z +ℤ pos (pair_of lo hi)) }
 {
-    halve(std::num::wrapping_add_u64(bits::wrap_long(z), pair(lo, hi)))
+    halve(bits::wrap_long(z).wrapping_add(pair(lo, hi)))
 }
 
 pub fn smull(m: u32, s: u32) -> Long
@@ -95,9 +90,9 @@ fn half(w: u32, top: bool) -> i64
     ensures { (result ≡ half_of w top) × Within (2 ^ 15) result }
 {
     if top {
-        bits::signed_half((w / 65536 % 65536) as u16)
+        bits::signed(w / 65536, 16)
     } else {
-        bits::signed_half((w % 65536) as u16)
+        bits::signed(w, 16)
     }
 }
 
@@ -108,10 +103,10 @@ fn halves(m: u32, s: u32, x: bool, y: bool) -> i64
     half(m, x) * half(s, y)
 }
 
-fn mark(z: i64) -> Sticky
+fn mark(z: i64) -> Fitted
     ensures { result ≡ sticky_of z }
 {
-    Sticky {
+    Fitted {
         value: bits::wrap_word(z),
         q: (z < -0x8000_0000) | (0x7FFF_FFFF < z),
     }
@@ -123,10 +118,10 @@ pub fn smulxy(m: u32, s: u32, x: bool, y: bool) -> u32
     bits::wrap_word(halves(m, s, x, y))
 }
 
-pub fn smlaxy(m: u32, s: u32, n: u32, x: bool, y: bool) -> Sticky
+pub fn smlaxy(m: u32, s: u32, n: u32, x: bool, y: bool) -> Fitted
     ensures { result ≡ smlaxy_of m s n x y }
 {
-    mark(halves(m, s, x, y) + bits::signed_word(n))
+    mark(halves(m, s, x, y) + bits::signed(n, 32))
 }
 
 pub fn smlalxy(m: u32, s: u32, lo: u32, hi: u32, x: bool, y: bool) -> Long
@@ -138,13 +133,13 @@ pub fn smlalxy(m: u32, s: u32, lo: u32, hi: u32, x: bool, y: bool) -> Long
 pub fn smulw(m: u32, s: u32, y: bool) -> u32
     ensures { result ≡ smulw_of m s y }
 {
-    (bits::wrap_long(bits::signed_word(m) * half(s, y)) / 65536 % 0x1_0000_0000) as u32
+    (bits::wrap_long(bits::signed(m, 32) * half(s, y)) / 65536 % 0x1_0000_0000) as u32
 }
 
-pub fn smlaw(m: u32, s: u32, n: u32, y: bool) -> Sticky
+pub fn smlaw(m: u32, s: u32, n: u32, y: bool) -> Fitted
     ensures { result ≡ smlaw_of m s n y }
 {
-    mark(bits::signed_word(smulw(m, s, y)) + bits::signed_word(n))
+    mark(bits::signed(smulw(m, s, y), 32) + bits::signed(n, 32))
 }
 
 fn total(x: i64, y: i64, subtract: bool) -> i64
@@ -154,28 +149,18 @@ fn total(x: i64, y: i64, subtract: bool) -> i64
     if subtract { x - y } else { x + y }
 }
 
-fn hold(z: i64) -> Sticky
-    ensures { result ≡ held_of z }
-{
-    let held = alu::saturate_i32(z);
-    Sticky {
-        value: held.value,
-        q: held.saturated,
-    }
-}
-
-pub fn qadd(m: u32, n: u32, subtract: bool) -> Sticky
+pub fn qadd(m: u32, n: u32, subtract: bool) -> Fitted
     ensures { result ≡ qadd_of m n subtract }
 {
-    hold(total(bits::signed_word(m), bits::signed_word(n), subtract))
+    alu::saturate_i32(total(bits::signed(m, 32), bits::signed(n, 32), subtract))
 }
 
-pub fn qdadd(m: u32, n: u32, subtract: bool) -> Sticky
+pub fn qdadd(m: u32, n: u32, subtract: bool) -> Fitted
     ensures { result ≡ qdadd_of m n subtract }
 {
-    let doubled = hold(bits::signed_word(n) * 2);
+    let doubled = alu::saturate_i32(bits::signed(n, 32) * 2);
     let sum = qadd(m, doubled.value, subtract);
-    Sticky {
+    Fitted {
         value: sum.value,
         q: doubled.q | sum.q,
     }
@@ -198,16 +183,16 @@ fn dual(m: u32, s: u32, subtract: bool, x: bool) -> i64
     )
 }
 
-pub fn smuad(m: u32, s: u32, subtract: bool, x: bool) -> Sticky
+pub fn smuad(m: u32, s: u32, subtract: bool, x: bool) -> Fitted
     ensures { result ≡ smuad_of m s subtract x }
 {
     mark(dual(m, s, subtract, x))
 }
 
-pub fn smlad(m: u32, s: u32, n: u32, subtract: bool, x: bool) -> Sticky
+pub fn smlad(m: u32, s: u32, n: u32, subtract: bool, x: bool) -> Fitted
     ensures { result ≡ smlad_of m s n subtract x }
 {
-    mark(dual(m, s, subtract, x) + bits::signed_word(n))
+    mark(dual(m, s, subtract, x) + bits::signed(n, 32))
 }
 
 pub fn smlald(m: u32, s: u32, lo: u32, hi: u32, subtract: bool, x: bool) -> Long
@@ -222,7 +207,7 @@ fn most(base: u64, m: u32, s: u32, subtract: bool, r: bool) -> u32
     ensures { result ≡ most_of (pos base) m s subtract r }
 {
     let product = bits::wrap_long(total(0, words(m, s), subtract));
-    let sum = std::num::wrapping_add_u64(product, base + bits::bit_of(r) as u64 * 0x8000_0000);
+    let sum = product.wrapping_add(base + u64::from(r) * 0x8000_0000);
     (sum / 0x1_0000_0000) as u32
 }
 

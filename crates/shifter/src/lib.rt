@@ -19,6 +19,7 @@ pub struct Operand {
     pub carry: bool,
 }
 
+// Not a From: kinds are the numbers of two bits, and the public calls take those.
 pub fn shift_type(kind: u32) -> ShiftType
     requires { kind < 4 }
     ensures { result ≡ type_of kind }
@@ -36,7 +37,7 @@ fn shift_left(x: u32, n: u32) -> Operand
     requires { (0 < n) × (n ≤ 32) }
     ensures { result ≡ through_of ShiftType.Lsl x n }
 {
-    let wide = (x as u64) << n;
+    let wide = u64::from(x) << n;
     Operand {
         value: (wide % 0x1_0000_0000) as u32,
         carry: (wide >> 32) % 2 == 1,
@@ -47,7 +48,7 @@ fn shift_right(x: u32, n: u32) -> Operand
     requires { (0 < n) × (n ≤ 32) }
     ensures { result ≡ through_of ShiftType.Lsr x n }
 {
-    let wide = x as u64;
+    let wide = u64::from(x);
     Operand {
         value: (wide >> n) as u32,
         carry: (wide >> (n - 1)) % 2 == 1,
@@ -103,7 +104,7 @@ fn by_zero(ty: ShiftType, value: u32, c: bool) -> Operand
         ShiftType::Lsr => shift_right(value, 32),
         ShiftType::Asr => shift_right_signed(value, 32),
         ShiftType::Ror => Operand {
-            value: bits::bit_of(c) * 0x8000_0000 + value / 2,
+            value: u32::from(c) * 0x8000_0000 + value / 2,
             carry: value % 2 == 1,
         },
     }

@@ -6,19 +6,19 @@ use Rattle.std.specs.Int.Signed.{lt_z}
 use Rattle.bits.specs.Cases.{when◌then◌else◌}
 use Rattle.bits.specs.Integers.{wrap}
 use Rattle.bits.specs.Laws.Diff.{pos_sub, diff_ge}
-use Rattle.alu.specs.declared.Saturated.{Saturated}
+use Rattle.alu.specs.declared.Fitted.{Fitted}
 use Rattle.alu.specs.Saturation.{clamp_of, saturated_of}
 
 module _ (low high z : ℤ) where
-  pub below_low : lt_z z low ≡ true → ◌≡◌ {A = Saturated} (record { value = wrap 32 low; saturated = true }) (saturated_of low high z)
+  pub below_low : lt_z z low ≡ true → ◌≡◌ {A = Fitted} (record { value = wrap 32 low; q = true }) (saturated_of low high z)
   unfolding saturated_of clamp_of when◌then◌else◌
   below_low e = rw e
 
-  pub above_high : lt_z z low ≡ false → lt_z high z ≡ true → ◌≡◌ {A = Saturated} (record { value = wrap 32 high; saturated = true }) (saturated_of low high z)
+  pub above_high : lt_z z low ≡ false → lt_z high z ≡ true → ◌≡◌ {A = Fitted} (record { value = wrap 32 high; q = true }) (saturated_of low high z)
   unfolding saturated_of clamp_of when◌then◌else◌
   above_high d e = rw (d, e)
 
-  pub between : lt_z z low ≡ false → lt_z high z ≡ false → ◌≡◌ {A = Saturated} (record { value = wrap 32 z; saturated = false }) (saturated_of low high z)
+  pub between : lt_z z low ≡ false → lt_z high z ≡ false → ◌≡◌ {A = Fitted} (record { value = wrap 32 z; q = false }) (saturated_of low high z)
   unfolding saturated_of clamp_of when◌then◌else◌
   between d e = rw (d, e)
 

@@ -1,6 +1,6 @@
 -- Ranges of integers: bounds that add and multiply, and from them what a signed expression of the code gives.
-use Rattle.std.specs.Prelude.{◌≡◌, ℕ, zero, suc, ◌+◌, ◌-◌, ◌*◌, ◌^◌, ◌<◌, ◌≤◌, ℤ, pos, negsuc, ◌+ℤ◌, ◌-ℤ◌, ◌*ℤ◌, neg_ℤ, FitsSigned, unsigned_abs, refl}
-use Rattle.std.proofs.Common.{sym, ◌∙◌, subst, ⊎_elim, suc-le-suc, arith, div-le_self, mul-le-mul, le_trans, lt_of_le_of_lt, lit<, to_z, of_z, to_z-of_z}
+use Rattle.std.specs.Prelude.{◌≡◌, ℕ, zero, suc, ◌+◌, ◌-◌, ◌*◌, ◌%◌, ◌^◌, ◌<◌, ◌≤◌, ℤ, pos, negsuc, ◌+ℤ◌, ◌-ℤ◌, ◌*ℤ◌, neg_ℤ, FitsSigned, unsigned_abs, refl}
+use Rattle.std.proofs.Common.{sym, ◌∙◌, subst, ⊎_elim, suc-le-suc, arith, div-le_self, mul-le-mul, le_trans, lt_of_le_of_lt, lit<, pow_mono, mod-eq_of_lt, to_z, of_z, to_z-of_z}
 use Rattle.std.proofs.Math.IntN.{sub_ℕ}
 use Rattle.std.specs.Int.Signed.{shr_z, mag, mag_shr}
 use Rattle.std.proofs.Math.Facts.{to_z_pos}
@@ -103,6 +103,10 @@ told i = (i.same, rw i.same i.size)
 pub heard : {z y : ℤ} {m : ℕ} → (z ≡ y) × Within m z → m < 2 ^ 63 → Is m (to_z w64 (of_z w64 z)) y
 heard h l = is_call h.0 h.1 l
 
+-- a word read whole
+pub heard_word : {z : ℤ} {x : ℕ} → (z ≡ signed 32 (x % 2 ^ 32)) × Within (2 ^ 31) z → x < 2 ^ 32 → Is (2 ^ 31) (to_z w64 (of_z w64 z)) (signed 32 x)
+heard_word h l = rw (mod-eq_of_lt l) at (heard h (lit< tt))
+
 pub fit_is : {t y : ℤ} {m : ℕ} → Is m t y → m < 2 ^ 63 → FitsSigned w64 t
 fit_is i l = rw i.same (fit64 i.size l)
 
@@ -118,16 +122,23 @@ is_wider i l = record { same = i.same; size = record { within = le_trans i.size.
 pub is_word : (n : ℕ) → n < 2 ^ 32 → Is (2 ^ 32) (to_z w64 n) (pos n)
 is_word n h = is_nat n (2 ^ 32) (omega arith) (lit< tt)
 
--- the two ways in which the code reads a word of k bits: as it stands, and less 2^k
-module _ (k n : ℕ) (hk : 0 < k) (hn : n < 2 ^ k) (small : 2 ^ k ≤ 2 ^ 32) where
-  pub reads_low : n < 2 ^ (k - 1) → Is (2 ^ (k - 1)) (to_z w64 n) (signed k n)
-  reads_low l = record { same = to_z_pos w64 (omega arith) ∙ sym (signed_low k n l); size = in_signed k n hk hn }
+-- the two ways in which the code reads a word of k bits: as it stands, and less p, which is 2^k
+module _ (k n : ℕ) (hk : 0 < k) (hn : n < 2 ^ k) (small : k ≤ 32) where
+  word : 2 ^ k ≤ 2 ^ 32
+  word = pow_mono small
 
-  pub reads_high : 2 ^ (k - 1) ≤ n → Is (2 ^ (k - 1)) (to_z w64 n -ℤ pos (2 ^ k)) (signed k n)
-  reads_high l = record { same = rw (to_z_pos w64 (small_enough)) (pos_sub n (2 ^ k) ∙ sym (signed_high k n l)); size = in_signed k n hk hn }
-    where
-      small_enough : n < 2 ^ 63
-      small_enough = omega arith
+  pub reads_low : n < 2 ^ (k - 1) → Is (2 ^ (k - 1)) (to_z w64 n) (signed k n)
+  reads_low l = record { same = to_z_pos w64 (omega (arith, word)) ∙ sym (signed_low k n l); size = in_signed k n hk hn }
+
+  pub reads_high : (p : ℕ) → p ≡ 2 ^ k → 2 ^ (k - 1) ≤ n → Is (2 ^ (k - 1)) (to_z w64 n -ℤ to_z w64 p) (signed k n)
+  reads_high p e l =
+      record {
+        same = rw (to_z_pos w64 {n = n} (omega (arith, word)), to_z_pos w64 {n = p} (omega (arith, word, e)), e) (pos_sub n (2 ^ k) ∙ sym (signed_high k n l));
+        size = in_signed k n hk hn;
+      }
+
+  pub reads_fit : 2 ^ (k - 1) < 2 ^ 63
+  reads_fit = omega (arith, word, twice_half k hk)
 
 pub fit_add : {t y s w : ℤ} {m n : ℕ} → Is m t y → Is n s w → m + n < 2 ^ 63 → FitsSigned w64 (t +ℤ s)
 fit_add p q l = rw (p.same, q.same) (fit64 (in_add p.size q.size) l)

@@ -1,11 +1,8 @@
 -- Values modulo 2^k.
-use Rattle.std.specs.Prelude.{◌≡◌, ℕ, suc, ◌+◌, ◌-◌, ◌*◌, ◌/◌, ◌%◌, ◌^◌, ◌<◌, ◌≤◌, true, false, T, ℤ, pos, negsuc, ◌+ℤ◌, ◌-ℤ◌, FitsSigned, int_lt, unsigned_abs, refl}
-use Rattle.std.proofs.Common.{sym, ap, ◌∙◌, ⊎_elim, arith, mod-lt, mod-eq_of_lt, div-add-mod', ltb-true, Fits, pow_pos}
+use Rattle.std.specs.Prelude.{◌≡◌, ℕ, suc, ◌+◌, ◌-◌, ◌*◌, ◌/◌, ◌%◌, ◌^◌, ◌<◌, ◌≤◌, ℤ, pos, negsuc, ◌+ℤ◌, ◌-ℤ◌, refl}
+use Rattle.std.proofs.Common.{sym, ap, ◌∙◌, ⊎_elim, arith, mod-lt, mod-eq_of_lt, div-add-mod', pow_pos}
 use Rattle.std.proofs.Math.Nat.{add-mul-mod_self_right, mod-add-mod}
 use Rattle.std.proofs.Math.IntN.{sub_ℕ}
-use Rattle.std.specs.Int.Signed.{non_neg, mag}
-use Rattle.std.proofs.lemmas.Bool.{false≢true}
-use Rattle.std.specs.Int.{w64}
 use Rattle.std.proofs.Math.Pow.{mod-mod-pow, ones_split}
 use Rattle.std.proofs.lemmas.Nat.{mod-pow-add}
 use Rattle.bits.specs.Integers.{wrap}
@@ -88,24 +85,3 @@ wrap_sub k (pos m) n r h e =
 wrap_sub k (negsuc m) n r h e =
     let q : ℕ = (r + ((2 ^ k - 1) - m % 2 ^ k)) / 2 ^ k in
     sym (mod_both (n + suc m) r (2 ^ k) q (suc (m / 2 ^ k)) (omega (arith, e, mod-lt m (pow_pos k), div-add-mod' m (2 ^ k), div-add-mod' (r + ((2 ^ k - 1) - m % 2 ^ k)) (2 ^ k))) ∙ mod-eq_of_lt h)
-
--- The two ways in which the code wraps an i64: a negative one through -1 - z, another as it stands.
-pub negative_size : (z : ℤ) → int_lt z (pos 0) ≡ true → negsuc 0 -ℤ z ≡ pos (mag z)
-negative_size (pos n) e = absurd (not_below n (ltb-true n 0 e))
-negative_size (negsuc n) e = diff_ge (suc n) 1 (omega arith) ∙ ap pos (omega arith)
-
-pub wrap_negative : (z : ℤ) → FitsSigned w64 z → int_lt z (pos 0) ≡ true → (2 ^ 64 - 1) - mag z ≡ wrap 64 z
-wrap_negative (pos n) h e = absurd (not_below n (ltb-true n 0 e))
-wrap_negative (negsuc n) h e = ap (λ (x : ℕ). (2 ^ 64 - 1) - x) (sym (mod-eq_of_lt (omega (arith, h.sfits))))
-
-pub not_negative : (z : ℤ) → int_lt z (pos 0) ≡ false → T (non_neg z)
-not_negative (pos n) e = tt
-not_negative (negsuc n) e = absurd (false≢true (sym e))
-
-pub wrap_natural : (z : ℤ) → FitsSigned w64 z → int_lt z (pos 0) ≡ false → unsigned_abs z ≡ wrap 64 z
-wrap_natural (pos n) h e = sym (mod-eq_of_lt (omega (arith, h.sfits)))
-wrap_natural (negsuc n) h e = absurd (false≢true (sym e))
-
-pub natural_fits : (z : ℤ) → FitsSigned w64 z → Fits w64 (unsigned_abs z)
-natural_fits (pos n) h = record { fits = omega (arith, h.sfits) }
-natural_fits (negsuc n) h = record { fits = omega (arith, h.sfits) }

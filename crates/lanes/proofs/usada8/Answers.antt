@@ -3,4 +3,4 @@ use Rattle.lanes.proofs.usada8.Goals as goal
 
 pub returns : goal.returns
 unfolding usada8_of
-returns c = rw (c.wrapping_add.ensures, c.usad8.ensures.0)
+returns c = rw c.usad8.ensures.0

@@ -1,27 +1,29 @@
--- A lane read as signed, and the halves of a word of four lanes.
-use Rattle.std.specs.Prelude.{◌≡◌, ℕ, ◌-◌, ◌^◌, ◌≤◌, ◌<◌, ◌-ℤ◌}
-use Rattle.std.proofs.Common.{arith, pow_mono, to_z}
-use Rattle.std.proofs.Math.Facts.{to_z_pos}
-use Rattle.std.specs.Int.{w64}
+-- A lane read as signed, the distance of two bytes, and the halves of a word of four lanes.
+use Rattle.std.specs.Prelude.{◌≡◌, ℕ, ◌-◌, ◌%◌, ◌^◌, ◌≤◌, ◌<◌, ℤ, nat_lt}
+use Rattle.std.proofs.Common.{⊎_elim, arith, lt-ltb, le-ltb, pow_mono, mod-eq_of_lt, to_z, of_z}
+use Rattle.std.specs.Int.{w64, abs_diff}
+use Rattle.bits.specs.Cases.{if_yes, if_no}
 use Rattle.bits.specs.Fields.{◌⟨◌‥◌⟩}
 use Rattle.bits.specs.Words.{lanes_of}
 use Rattle.bits.specs.Integers.{signed}
-use Rattle.bits.specs.Laws.Range.{Is, is_wider, reads_low, reads_high}
+use Rattle.bits.specs.Laws.Order.{split}
+use Rattle.bits.specs.Laws.Range.{Within, Is, is_wider, heard}
 use Rattle.lanes.specs.Parallel.{low_of, high_of}
+use Rattle.lanes.specs.Bytes.{distance}
 
 -- a lane as the code reads it, with one bound for both widths
-module _ (k n : ℕ) (hk : 0 < k) (hn : n < 2 ^ k) (s : k ≤ 16) where
-  small : 2 ^ k ≤ 2 ^ 32
-  small = pow_mono {j = 32} (omega arith)
+pub lane_heard : {z : ℤ} {k x : ℕ} → (z ≡ signed k (x % 2 ^ k)) × Within (2 ^ (k - 1)) z → x < 2 ^ k → k ≤ 16 → Is (2 ^ 32) (to_z w64 (of_z w64 z)) (signed k x)
+lane_heard {k = k} h l s =
+    let b : 2 ^ (k - 1) ≤ 2 ^ 32 = pow_mono {j = 32} (omega arith) in
+    rw (mod-eq_of_lt l) at (is_wider (heard h (omega (arith, b))) b)
 
-  wide : 2 ^ (k - 1) ≤ 2 ^ 32
-  wide = pow_mono {j = 32} (omega arith)
-
-  pub is_low : n < 2 ^ (k - 1) → Is (2 ^ 32) (to_z w64 n) (signed k n)
-  is_low l = is_wider (reads_low k n hk hn small l) wide
-
-  pub is_high : (p : ℕ) → p ≡ 2 ^ k → 2 ^ (k - 1) ≤ n → Is (2 ^ 32) (to_z w64 n -ℤ to_z w64 p) (signed k n)
-  is_high p e l = rw (to_z_pos w64 {n = p} (omega (arith, e, small)), e) (is_wider (reads_high k n hk hn small l) wide)
+pub distance_is : (x y : ℕ) → abs_diff x y ≡ distance x y
+unfolding distance
+distance_is x y =
+    ⊎_elim
+    (λ h. rw (if_yes (nat_lt x y) (y - x) (x - y) (lt-ltb x y h)) (omega arith))
+    (λ h. rw (if_no (nat_lt x y) (y - x) (x - y) (le-ltb x y h)) (omega arith))
+    (split x y)
 
 -- the halves of a word's four bytes are its fields
 pub low_field : (w : ℕ) → low_of (lanes_of w) ≡ w ⟨ 15 ‥ 0 ⟩

@@ -22,6 +22,10 @@ pub returns-in-4 : goal.returns-in-4
 unfolding operation_of when◌then◌else◌
 returns-in-4 c = rw c.in-4.is
 
+pub returns-in-7 : goal.returns-in-7
+unfolding operation_of when◌then◌else◌
+returns-in-7 c = rw c.in-7.is
+
 pub returns-in_default : goal.returns-in_default
 unfolding operation_of
 returns-in_default c = search cases

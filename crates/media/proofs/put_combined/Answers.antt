@@ -1,11 +1,10 @@
-use Rattle.bits.specs.Cases.{cases}
-use Rattle.media.specs.Media.{combined_of}
+use Rattle.media.specs.Media.{combined_of, put_with}
 use Rattle.media.proofs.put_combined.Goals as goal
 
-pub returns-then-x : goal.returns-then-x
-unfolding combined_of
-returns-then-x c = rw (c.set_lanes.ensures, c.wrapping_sub.ensures, c.join-value.ensures) (search cases)
+pub returns-in-Some : goal.returns-in-Some
+unfolding combined_of put_with
+returns-in-Some c = rw (c.set_lanes.ensures, c.from_le_bytes-value.ensures, c.in-Some.is)
 
-pub returns-else-x : goal.returns-else-x
-unfolding combined_of
-returns-else-x c = rw (c.put.ensures, c.join-value.ensures) (search cases)
+pub returns-in-None : goal.returns-in-None
+unfolding combined_of put_with
+returns-in-None c = rw (c.put.ensures, c.from_le_bytes-value.ensures, c.in-None.is)

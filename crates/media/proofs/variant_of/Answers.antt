@@ -22,6 +22,10 @@ pub returns-in-6 : goal.returns-in-6
 unfolding variant_of when◌then◌else◌
 returns-in-6 c = rw c.in-6.is
 
+pub returns-in-7 : goal.returns-in-7
+unfolding variant_of when◌then◌else◌
+returns-in-7 c = rw c.in-7.is
+
 pub returns-in_default : goal.returns-in_default
 unfolding variant_of
 returns-in_default c = search cases

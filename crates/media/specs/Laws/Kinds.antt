@@ -1,15 +1,18 @@
 -- What a media instruction leaves to do: nothing, Q, GE of four bits, or a refusal; and it keeps the number of registers.
-use Rattle.std.specs.Prelude.{◌≡◌, Bool, List, ◌⊎◌, ℕ, ◌≤◌, length, set}
+use Rattle.std.specs.Prelude.{◌≡◌, Bool, List, ◌⊎◌, ℕ, ◌≤◌, length, set, Option, Some, None}
 use Rattle.std.proofs.Math.Path.{refl}
 use Rattle.std.proofs.Common.{ap, ◌∙◌, inl, inr, arith, length-set}
 use Rattle.std.proofs.Math.Bool.{true, false}
 use Rattle.bits.specs.Cases.{when◌then◌else◌, if_both}
+use Rattle.lanes.specs.declared.Variant.{Variant}
+use Rattle.lanes.specs.declared.Operation.{Operation}
+use Rattle.lanes.specs.declared.Extension.{Extension}
 use Rattle.lanes.specs.declared.Combined.{Combined}
-use Rattle.lanes.specs.Laws.Ge.{parallel_ge}
+use Rattle.lanes.specs.Laws.Ge.{Small, parallel_ge}
 use Rattle.cpu.specs.declared.Kind.TheVariants as kind
 use Rattle.cpu.specs.declared.Outcome.{Outcome}
 use Rattle.cpu.specs.Outcomes.{sticky, advanced, put_of, undefined_of}
-use Rattle.media.specs.Media.{combined_of, parallel_family_of, packed_of, saturate_of, saturate16_of, extend_family_of, reversal_of, packing_of, dual_word_of, most_word_of, dual_multiply_of, usad_of, media_of}
+use Rattle.media.specs.Media.{put_with, combined_of, in_parallel_of, parallel_family_of, packed_of, saturate_of, saturate16_of, extended_of, extend_family_of, reversal_of, packing_of, dual_word_of, most_word_of, dual_multiply_of, usad_of, media_of}
 
 module _ (regs : List ℕ) (op : ℕ) where
   -- what can be left: nothing, Q, GE of four bits, or the refusal of an undefined code, with the registers as they came
@@ -49,13 +52,24 @@ module _ (regs : List ℕ) (op : ℕ) where
   marked rd value true = (inr (inl refl), written rd value)
   marked rd value false = put rd value
 
-  combined : (x : Combined) → x.ge ≤ 15 → Keeps (combined_of regs op x)
+  put_ge : (rd value : ℕ) (ge : Option ℕ) → Small ge → Keeps (put_with regs rd value ge)
+  unfolding put_with
+  put_ge rd value (Some ge) h = (inr (inr (inl (refl, h))), written rd value)
+  put_ge rd value None h = put rd value
+
+  combined : (x : Combined) → Small x.ge → Keeps (combined_of regs op x)
   unfolding combined_of
-  combined x h = if_both Keeps _ (inr (inr (inl (refl, h))), written _ _) (put _ _)
+  combined x h = put_ge _ _ x.ge h
+
+  by_codes : (v : Option Variant) (o : Option Operation) → Keeps (in_parallel_of regs op v o)
+  unfolding in_parallel_of
+  by_codes (Some v) (Some o) = combined _ (parallel_ge v o _ _)
+  by_codes (Some v) None = refused
+  by_codes None o = refused
 
   in_parallel : Keeps (parallel_family_of regs op)
   unfolding parallel_family_of
-  in_parallel = if_both Keeps _ (combined _ (parallel_ge _ _ _ _)) refused
+  in_parallel = by_codes _ _
 
   packed : Keeps (packed_of regs op)
   unfolding packed_of
@@ -69,9 +83,14 @@ module _ (regs : List ℕ) (op : ℕ) where
   unfolding saturate16_of
   saturated16 = if_both Keeps _ (marked _ _ _) (marked _ _ _)
 
+  by_extension : (e : Option Extension) → Keeps (extended_of regs op e)
+  unfolding extended_of
+  by_extension (Some e) = put _ _
+  by_extension None = refused
+
   extended : Keeps (extend_family_of regs op)
   unfolding extend_family_of
-  extended = if_both Keeps _ refused (put _ _)
+  extended = by_extension _
 
   reversed : Keeps (reversal_of regs op)
   unfolding reversal_of

@@ -5,7 +5,7 @@ use Rattle.multiply.proofs.settle.Goals as goal
 
 pub returns-then-op-eq1 : goal.returns-then-op-eq1
 unfolding settled_of when◌then◌else◌
-returns-then-op-eq1 c = rw (c.set_flags_of.ensures, c.wrapping_sub.ensures, c.if-op-eq1.true)
+returns-then-op-eq1 c = rw (c.set_flags_of.ensures, c.if-op-eq1.true)
 
 pub returns-else-op-eq1 : goal.returns-else-op-eq1
 unfolding settled_of when◌then◌else◌

@@ -7,5 +7,5 @@ use Rattle.products.proofs.accumulate.Goals as goal
 pub returns : goal.returns
 returns c =
     let k = pair_of c.args.lo c.args.hi in
-    rw (c.halve.ensures, c.wrapping_add_u64.ensures.value, c.pair.ensures, c.wrap_long.ensures, to_z-of_z c.ranges.z, wrap_add 64 c.args.z k)
+    rw (c.halve.ensures, c.pair.ensures, c.wrap_long.ensures, to_z-of_z c.ranges.z, wrap_add 64 c.args.z k)
     (long_wrapped (c.args.z +ℤ pos k))

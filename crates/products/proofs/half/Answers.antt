@@ -6,8 +6,8 @@ use Rattle.products.proofs.half.Goals as goal
 
 pub returns-then-top : goal.returns-then-top
 unfolding half_of when◌then◌else◌
-returns-then-top c = rw c.if-top.true (told (heard c.signed_half.ensures (lit< tt)))
+returns-then-top c = rw c.if-top.true (told (heard c.signed.ensures (lit< tt)))
 
 pub returns-else-top : goal.returns-else-top
 unfolding half_of when◌then◌else◌
-returns-else-top c = rw c.if-top.false (told (heard c.signed_half-else-top.ensures (lit< tt)))
+returns-else-top c = rw c.if-top.false (told (heard c.signed-else-top.ensures (lit< tt)))

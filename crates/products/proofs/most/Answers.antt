@@ -6,5 +6,5 @@ use Rattle.products.proofs.most.Goals as goal
 pub returns : goal.returns
 returns c =
     let s = c.args in
-    rw (c.wrapping_add_u64-sum.ensures.value, c.bit_of.ensures.0, c.wrap_long-product.ensures, (heard c.total.ensures (lit< tt)).same, (heard c.words.ensures (lit< tt)).same)
+    rw (c.from.ensures, c.wrap_long-product.ensures, (heard c.total.ensures (lit< tt)).same, (heard c.words.ensures (lit< tt)).same)
     (most_law s.base s.m s.s s.subtract s.r)

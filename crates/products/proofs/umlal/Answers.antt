@@ -7,5 +7,5 @@ pub returns : goal.returns
 unfolding umlal_of
 returns c =
     let s = c.args in
-    rw (c.halve.ensures, c.wrapping_add_u64.ensures.value, c.pair.ensures, c.widening_mul.ensures.0)
+    rw (c.halve.ensures, c.pair.ensures, c.widening_mul.ensures.0)
     (long_wrapped (pos (s.m * s.s + pair_of s.lo s.hi)))

@@ -18,4 +18,4 @@ returns-in-Asr c =
 
 pub returns-in-Ror : goal.returns-in-Ror
 unfolding by_immediate_of when◌then◌else◌
-returns-in-Ror c = rw (c.bit_of.ensures.0, c.in-Ror.is)
+returns-in-Ror c = rw (c.from.ensures, c.in-Ror.is)
