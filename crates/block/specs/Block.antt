@@ -5,7 +5,8 @@ use Rattle.bits.specs.Fields.{◌⟨◌⟩, ◌⟨◌‥◌⟩}
 use Rattle.bits.specs.Words.{ones_of}
 use Rattle.memory.specs.Plans.{accesses_of, outside_of, words_at, stored_of}
 use Rattle.cpu.specs.declared.Outcome.{Outcome}
-use Rattle.cpu.specs.Outcomes.{block, done_of, exchanged_of}
+use Rattle.cpu.specs.declared.Outcome.TheVariants.{Block}
+use Rattle.cpu.specs.Outcomes.{done_of, exchanged_of}
 use Rattle.transfer.specs.Transfers.{guarded_of, beside, base_of, moved_of}
 use Rattle.block.specs.declared.Plan.{Plan}
 
@@ -98,6 +99,6 @@ load_of p regs op l = beside (continued_of p (loaded_of p (unlisted_of p regs op
 -- the instruction, S clear; with S (bit 22) it waits for the whole machine
 unfoldable pub block_of : List ℕ → ℕ → List ℕ → Outcome × List ℕ × List ℕ
 block_of regs op l =
-    when op ⟨ 22 ⟩ then (block, regs, l)
+    when op ⟨ 22 ⟩ then (Block, regs, l)
     else guarded_of (found_of (plan_of regs op) (length l)) regs l
     (when op ⟨ 20 ⟩ then load_of (plan_of regs op) regs op l else store_of (plan_of regs op) regs op l)

@@ -18,7 +18,8 @@ use Rattle.lanes.specs.Bytes.{sel_of, usad8_of, usada8_of}
 use Rattle.lanes.specs.Packing.{pkhbt_of, pkhtb_of, extend_of}
 use Rattle.lanes.specs.Saturation.{ssat_of, usat_of, ssat16_of, usat16_of}
 use Rattle.cpu.specs.declared.Outcome.{Outcome}
-use Rattle.cpu.specs.Outcomes.{lanes, advanced, put_of, undefined_of}
+use Rattle.cpu.specs.declared.Outcome.TheVariants.{Lanes}
+use Rattle.cpu.specs.Outcomes.{advanced, put_of, undefined_of}
 use Rattle.multiply.specs.Multiply.{long_put_of, marked_of}
 
 -- what the registers named by bits 3-0, 11-8, 15-12 and 19-16 hold
@@ -68,7 +69,7 @@ allocated op = not (op ⟨ 21 ‥ 20 ⟩ == 0) && ((op ⟨ 7 ‥ 5 ⟩ <? 5) || 
 
 -- a result in Rd, with GE where there is one
 unfoldable pub put_with : List ℕ → ℕ → ℕ → Option ℕ → Outcome × List ℕ
-put_with regs rd value (Some ge) = (lanes ge, advanced (set regs rd value))
+put_with regs rd value (Some ge) = (Lanes ge, advanced (set regs rd value))
 put_with regs rd value None = put_of regs rd value
 
 unfoldable pub combined_of : List ℕ → ℕ → Combined → Outcome × List ℕ

@@ -7,7 +7,8 @@ use Rattle.alu.specs.Sums.{negative}
 use Rattle.products.specs.declared.Long.{Long}
 use Rattle.products.specs.Products.{mul_of, mla_of, umull_of, umlal_of, umaal_of, smull_of, smlal_of, smulxy_of, smlaxy_of, smlalxy_of, smulw_of, smlaw_of, qadd_of, qdadd_of}
 use Rattle.cpu.specs.declared.Outcome.{Outcome}
-use Rattle.cpu.specs.Outcomes.{flags, flags_of, nothing, sticky, advanced, put_of}
+use Rattle.cpu.specs.declared.Outcome.TheVariants.{Flags, Nothing}
+use Rattle.cpu.specs.Outcomes.{flags_of, sticky, advanced, put_of}
 
 -- what the registers named by bits 3-0, 11-8, 15-12 and 19-16 hold
 abbrev pub rm : List ℕ → ℕ → ℕ
@@ -28,9 +29,9 @@ upper regs op = get_or regs (op ⟨ 19 ‥ 16 ⟩) 0
 abbrev pub with_long : List ℕ → ℕ → Long → List ℕ
 with_long regs op x = set (set regs (op ⟨ 15 ‥ 12 ⟩) x.lo) (op ⟨ 19 ‥ 16 ⟩) x.hi
 
--- a long result, and nothing more
+-- a long result, and Nothing more
 abbrev pub long_put_of : List ℕ → ℕ → Long → Outcome × List ℕ
-long_put_of regs op x = (nothing, advanced (with_long regs op x))
+long_put_of regs op x = (Nothing, advanced (with_long regs op x))
 
 -- a result in Rd, with N and Z of it where S is set; C and V stay
 unfoldable pub settled_of : List ℕ → ℕ → ℕ → Bool → Bool → Outcome × List ℕ
@@ -57,7 +58,7 @@ wide_of regs op =
 -- and where it goes: N is bit 63, Z says that all 64 bits are zero
 unfoldable pub wide_settled_of : List ℕ → ℕ → Long → Bool → Bool → Outcome × List ℕ
 wide_settled_of regs op x c v =
-    when op ⟨ 20 ⟩ then (flags (negative x.hi) ((x.lo == 0) && (x.hi == 0)) c v, advanced (with_long regs op x))
+    when op ⟨ 20 ⟩ then (Flags (negative x.hi) ((x.lo == 0) && (x.hi == 0)) c v, advanced (with_long regs op x))
     else long_put_of regs op x
 
 -- bits 23-21 of 010 are A4.1.127 UMAAL; D4: its bit 20 is not looked at

@@ -8,7 +8,7 @@ use Rattle.cpu.specs.declared.Outcome.{Outcome}
 use Rattle.cpu.specs.declared.Machine.{Machine}
 use Rattle.cpu.specs.declared.Answer.{Answer}
 use Rattle.cpu.specs.declared.Answer.TheVariants.{Bus}
-use Rattle.cpu.specs.Outcomes.{stops}
+use Rattle.cpu.specs.declared.Outcome.TheVariants.{Stop}
 use Rattle.transfer.specs.Transfers.{guarded_of}
 use Rattle.block.specs.declared.Plan.{Plan}
 use Rattle.block.specs.Block.{plan_of, found_of, store_of, load_of, block_of}
@@ -23,7 +23,7 @@ module _ (regs : List ℕ) (op : ℕ) {p : Plan} (l : List ℕ) (e : p ≡ plan_
   unfolding block_of guarded_of when◌then◌else◌
   stores f b h = h ∙ rw (← e, ne_eqb (op / 2 ^ 22 % 2) 1 s, f, ne_eqb (op / 2 ^ 20 % 2) 1 b)
 
-  pub refuses : (at : ℕ) → found_of p (length l) ≡ Some at → (stops (Bus at), regs, l) ≡ block_of regs op l
+  pub refuses : (at : ℕ) → found_of p (length l) ≡ Some at → (Stop (Bus at), regs, l) ≡ block_of regs op l
   unfolding block_of guarded_of when◌then◌else◌
   refuses at f = rw (← e, ne_eqb (op / 2 ^ 22 % 2) 1 s, f)
 

@@ -9,8 +9,9 @@ use Rattle.lanes.specs.declared.Operation.{Operation}
 use Rattle.lanes.specs.declared.Extension.{Extension}
 use Rattle.lanes.specs.declared.Combined.{Combined}
 use Rattle.lanes.specs.Laws.Ge.{Small, parallel_ge}
-use Rattle.cpu.specs.declared.Kind.TheVariants as kind
+use Rattle.cpu.specs.declared.Answer.{Answer}
 use Rattle.cpu.specs.declared.Outcome.{Outcome}
+use Rattle.cpu.specs.declared.Outcome.TheVariants as outcome
 use Rattle.cpu.specs.Outcomes.{sticky, advanced, put_of, undefined_of}
 use Rattle.media.specs.Media.{put_with, combined_of, in_parallel_of, parallel_family_of, packed_of, saturate_of, saturate16_of, extended_of, extend_family_of, reversal_of, packing_of, dual_word_of, most_word_of, dual_multiply_of, usad_of, media_of}
 
@@ -18,24 +19,24 @@ module _ (regs : List ℕ) (op : ℕ) where
   -- what can be left: nothing, Q, GE of four bits, or the refusal of an undefined code, with the registers as they came
   abbrev pub MediaLeft : Outcome × List ℕ → Type 0
   MediaLeft x =
-      (x.0.kind ≡ kind.Nothing)
-      ⊎ ((x.0.kind ≡ kind.Sticky)
-      ⊎ (((x.0.kind ≡ kind.Lanes) × (x.0.ge ≤ 15)) ⊎ (x ≡ undefined_of regs op)))
+      (x.0 ≡ outcome.Nothing)
+      ⊎ ((x.0 ≡ outcome.Sticky)
+      ⊎ (((ge : ℕ) × (x.0 ≡ outcome.Lanes ge) × (ge ≤ 15)) ⊎ (x ≡ undefined_of regs op)))
 
   abbrev Keeps : Outcome × List ℕ → Type 0
   Keeps x = MediaLeft x × (length x.1 ≡ length regs)
 
-  stop_of : {x : Outcome × List ℕ} → MediaLeft x → x.0.kind ≡ kind.Stop → x ≡ undefined_of regs op
-  stop_of (inl p) e = let z : ◌≡◌ {A = ℕ} 0 1 = cc in absurd (omega arith)
-  stop_of (inr (inl p)) e = let z : ◌≡◌ {A = ℕ} 0 1 = cc in absurd (omega arith)
-  stop_of (inr (inr (inl p))) e = let z : ◌≡◌ {A = ℕ} 0 1 = cc in absurd (omega arith)
-  stop_of (inr (inr (inr p))) e = p
+  stop_of : {x : Outcome × List ℕ} → MediaLeft x → (a : Answer) → x.0 ≡ outcome.Stop a → x ≡ undefined_of regs op
+  stop_of (inl p) a e = let z : ◌≡◌ {A = ℕ} 0 1 = cc in absurd (omega arith)
+  stop_of (inr (inl p)) a e = let z : ◌≡◌ {A = ℕ} 0 1 = cc in absurd (omega arith)
+  stop_of (inr (inr (inl p))) a e = let q = p.1 in let z : ◌≡◌ {A = ℕ} 0 1 = cc in absurd (omega arith)
+  stop_of (inr (inr (inr p))) a e = p
 
-  ge_of : {x : Outcome × List ℕ} → MediaLeft x → x.0.kind ≡ kind.Lanes → x.0.ge ≤ 15
-  ge_of (inl p) e = let z : ◌≡◌ {A = ℕ} 0 1 = cc in omega arith
-  ge_of (inr (inl p)) e = let z : ◌≡◌ {A = ℕ} 0 1 = cc in omega arith
-  ge_of (inr (inr (inl p))) e = p.1
-  ge_of (inr (inr (inr p))) e = let k = ap (λ (y : Outcome × List ℕ). y.0.kind) p in let z : ◌≡◌ {A = ℕ} 0 1 = cc in omega arith
+  ge_of : {x : Outcome × List ℕ} → MediaLeft x → (ge : ℕ) → x.0 ≡ outcome.Lanes ge → ge ≤ 15
+  ge_of (inl p) ge e = let z : ◌≡◌ {A = ℕ} 0 1 = cc in omega arith
+  ge_of (inr (inl p)) ge e = let z : ◌≡◌ {A = ℕ} 0 1 = cc in omega arith
+  ge_of (inr (inr (inl p))) ge e = let q = p.1 in let h = p.2 in let s : p.0 ≡ ge = cc in rw s at h
+  ge_of (inr (inr (inr p))) ge e = let k = ap (λ (y : Outcome × List ℕ). y.0) p in let z : ◌≡◌ {A = ℕ} 0 1 = cc in omega arith
 
   written : (rd value : ℕ) → length (advanced (set regs rd value)) ≡ length regs
   written rd value = length-set (set regs rd value) 15 _ ∙ length-set regs rd value
@@ -54,7 +55,7 @@ module _ (regs : List ℕ) (op : ℕ) where
 
   put_ge : (rd value : ℕ) (ge : Option ℕ) → Small ge → Keeps (put_with regs rd value ge)
   unfolding put_with
-  put_ge rd value (Some ge) h = (inr (inr (inl (refl, h))), written rd value)
+  put_ge rd value (Some ge) h = (inr (inr (inl (ge, refl, h))), written rd value)
   put_ge rd value None h = put rd value
 
   combined : (x : Combined) → Small x.ge → Keeps (combined_of regs op x)
@@ -128,10 +129,10 @@ module _ (regs : List ℕ) (op : ℕ) where
     pub kinds_of_media : MediaLeft (media_of regs op ge)
     kinds_of_media = keeps.0
 
-    pub media_stops : (media_of regs op ge).0.kind ≡ kind.Stop → media_of regs op ge ≡ undefined_of regs op
+    pub media_stops : (a : Answer) → (media_of regs op ge).0 ≡ outcome.Stop a → media_of regs op ge ≡ undefined_of regs op
     media_stops = stop_of keeps.0
 
-    pub ge_of_media : (media_of regs op ge).0.kind ≡ kind.Lanes → (media_of regs op ge).0.ge ≤ 15
+    pub ge_of_media : (g : ℕ) → (media_of regs op ge).0 ≡ outcome.Lanes g → g ≤ 15
     ge_of_media = ge_of keeps.0
 
     pub length_of_media : length (media_of regs op ge).1 ≡ length regs
