@@ -181,6 +181,7 @@ fn reverse(regs: &mut [u32; 16], op: u32) -> Outcome
     }
 }
 
+// No `match` on numbers: bits 7-5 choose in part by being even.
 fn pack_sat_extend(regs: &mut [u32; 16], op: u32, ge: u8) -> Outcome
     ensures { (result, regs.new) ≡ packing_of regs.old op ge }
 {
@@ -265,14 +266,11 @@ fn smmla(regs: &mut [u32; 16], op: u32) -> Outcome
 fn dual_multiply(regs: &mut [u32; 16], op: u32) -> Outcome
     ensures { (result, regs.new) ≡ dual_multiply_of regs.old op }
 {
-    if op / 1048576 % 8 == 0 {
-        smlad(regs, op)
-    } else if op / 1048576 % 8 == 4 {
-        smlald(regs, op)
-    } else if op / 1048576 % 8 == 5 {
-        smmla(regs, op)
-    } else {
-        cpu::refuse(regs, op)
+    match op / 1048576 % 8 {
+        0 => smlad(regs, op),
+        4 => smlald(regs, op),
+        5 => smmla(regs, op),
+        _ => cpu::refuse(regs, op),
     }
 }
 
@@ -293,18 +291,17 @@ fn usad8(regs: &mut [u32; 16], op: u32) -> Outcome
 pub fn execute(regs: &mut [u32; 16], op: u32, ge: u8) -> Outcome
     ensures { (result, regs.new) ≡ media_of regs.old op ge }
 {
-    if op / 8388608 % 4 == 0 {
-        parallel(regs, op)
-    } else if op / 8388608 % 4 == 1 {
-        pack_sat_extend(regs, op, ge)
-    } else if op / 8388608 % 4 == 2 {
-        dual_multiply(regs, op)
-    } else {
-        let usad = (op / 1048576 % 8 == 0) & (op / 32 % 8 == 0);
-        if usad {
-            usad8(regs, op)
-        } else {
-            cpu::refuse(regs, op)
+    match op / 8388608 % 4 {
+        0 => parallel(regs, op),
+        1 => pack_sat_extend(regs, op, ge),
+        2 => dual_multiply(regs, op),
+        _ => {
+            let usad = (op / 1048576 % 8 == 0) & (op / 32 % 8 == 0);
+            if usad {
+                usad8(regs, op)
+            } else {
+                cpu::refuse(regs, op)
+            }
         }
     }
 }

@@ -2,18 +2,18 @@ use Rattle.bits.specs.Cases.{cases}
 use Rattle.media.specs.Media.{dual_multiply_of}
 use Rattle.media.proofs.dual_multiply.Goals as goal
 
-pub returns-then-op-eq0 : goal.returns-then-op-eq0
+pub returns-in-0 : goal.returns-in-0
 unfolding dual_multiply_of
-returns-then-op-eq0 c = search cases
+returns-in-0 c = search cases
 
-pub returns-then-op-eq4 : goal.returns-then-op-eq4
+pub returns-in-4 : goal.returns-in-4
 unfolding dual_multiply_of
-returns-then-op-eq4 c = search cases
+returns-in-4 c = search cases
 
-pub returns-then-op-eq5 : goal.returns-then-op-eq5
+pub returns-in-5 : goal.returns-in-5
 unfolding dual_multiply_of
-returns-then-op-eq5 c = search cases
+returns-in-5 c = search cases
 
-pub returns-else-op-eq5 : goal.returns-else-op-eq5
+pub returns-in_default : goal.returns-in_default
 unfolding dual_multiply_of
-returns-else-op-eq5 c = search cases
+returns-in_default c = search cases

@@ -2,17 +2,17 @@ use Rattle.bits.specs.Cases.{cases}
 use Rattle.media.specs.Media.{media_of}
 use Rattle.media.proofs.execute.Goals as goal
 
-pub returns-then-op-eq0 : goal.returns-then-op-eq0
+pub returns-in-0 : goal.returns-in-0
 unfolding media_of
-returns-then-op-eq0 c = search cases
+returns-in-0 c = search cases
 
-pub returns-then-op-eq1 : goal.returns-then-op-eq1
+pub returns-in-1 : goal.returns-in-1
 unfolding media_of
-returns-then-op-eq1 c = search cases
+returns-in-1 c = search cases
 
-pub returns-then-op-eq2 : goal.returns-then-op-eq2
+pub returns-in-2 : goal.returns-in-2
 unfolding media_of
-returns-then-op-eq2 c = search cases
+returns-in-2 c = search cases
 
 pub returns-then-usad : goal.returns-then-usad
 unfolding media_of
