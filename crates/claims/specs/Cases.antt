@@ -9,7 +9,7 @@ use Rattle.alu.specs.declared.Sum.{Sum}
 use Rattle.alu.specs.Sums.{sbc_of, adc_of, negative}
 use Rattle.alu.specs.Numbers.{Pair, words_of, last_of}
 use Rattle.alu.specs.Saturation.{clamp_of, saturated_of, signed_sat_of}
-use Rattle.products.specs.Products.{long_of, sticky_of, total_of, half_of, umaal_of, held_of, qadd_of, doubled_of, qdadd_of}
+use Rattle.products.specs.Products.{long_of, sticky_of, total_of, half_of, umaal_of, qadd_of, doubled_of, qdadd_of}
 use Rattle.products.specs.Duals.{second_of, dual_of, smuad_of}
 use Rattle.shifter.specs.declared.ShiftType.TheVariants.{Lsl, Lsr, Asr, Ror}
 use Rattle.shifter.specs.declared.ShiftType.{ShiftType}
@@ -47,7 +47,7 @@ keeps Asr value carry = refl
 keeps Ror value carry = refl
 
 pub table : Table
-unfolding when◌then◌else◌ signed outside rotated_of mode_of word_of status_of sbc_of adc_of shifted_of signs_of by_immediate_of by_register_of umaal_of long_of qdadd_of doubled_of qadd_of held_of total_of signed_sat_of saturated_of clamp_of smuad_of sticky_of dual_of second_of half_of
+unfolding when◌then◌else◌ signed outside rotated_of mode_of word_of status_of sbc_of adc_of shifted_of signs_of by_immediate_of by_register_of umaal_of long_of qdadd_of doubled_of qadd_of total_of signed_sat_of saturated_of clamp_of smuad_of sticky_of dual_of second_of half_of
 table =
     record {
       p1 = λ c. refl;

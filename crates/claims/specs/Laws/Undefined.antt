@@ -1,11 +1,13 @@
 -- Answer 2 is given exactly for the undefined codes.
-use Rattle.std.specs.Prelude.{◌≡◌, Bool, true, false, not, List, [], ◌∷◌, ◌≢◌, ℕ, ◌==◌}
+use Rattle.std.specs.Prelude.{◌≡◌, Bool, true, false, not, ◌&&◌, List, [], ◌∷◌, ◌≢◌, ℕ, ◌==◌, Option, Some, None, is_some, is_none}
 use Rattle.std.proofs.Math.Path.{refl}
 use Rattle.std.proofs.Common.{sym, ap, subst, ◌∙◌}
 use Rattle.std.proofs.lemmas.Bool.{false≢true}
 use Rattle.bits.specs.Cases.{when◌then◌else◌, if_both}
 use Rattle.bits.specs.Fields.{◌⟨◌‥◌⟩}
-use Rattle.lanes.specs.declared.Combined.{Combined}
+use Rattle.lanes.specs.declared.Variant.{Variant}
+use Rattle.lanes.specs.declared.Operation.{Operation}
+use Rattle.lanes.specs.declared.Extension.{Extension}
 use Rattle.decode.specs.declared.Family.{Family}
 use Rattle.decode.specs.declared.Family.TheVariants as family
 use Rattle.decode.specs.Families.{family_of}
@@ -16,7 +18,8 @@ use Rattle.cpu.specs.declared.Outcome.{Outcome}
 use Rattle.cpu.specs.Outcomes.{own_of, undefined_of}
 use Rattle.cpu.specs.With.{with_regs}
 use Rattle.transfer.specs.Transfers.{beside}
-use Rattle.media.specs.Media.{coded, allocated, combined_of, parallel_family_of, packed_of, saturate_of, saturate16_of, extend_family_of, reversal_of, packing_of, dual_word_of, most_word_of, dual_multiply_of, usad_of, media_of}
+use Rattle.media.specs.Media.{coded, allocated, put_with, combined_of, in_parallel_of, parallel_family_of, packed_of, saturate_of, saturate16_of, extended_of, extend_family_of, reversal_of, packing_of, dual_word_of, most_word_of, dual_multiply_of, usad_of, media_of}
+use Rattle.media.specs.Laws.Codes.{allocated_is, unextended_is}
 use Rattle.loadstore.specs.Extra.{extra_loads_of, extra_at, extra_of}
 use Rattle.exclusive.specs.Exclusive.{ldrex_of, ldrexd_of, strex_of, strexd_of, exclusive_of}
 use Rattle.arm.specs.Turn.{Seen, is_tagged, tag_address, effect_of}
@@ -66,13 +69,29 @@ module _ (m : Machine) (op : ℕ) (regs l : List ℕ) where
   abbrev Beside : Bool → Outcome × List ℕ → Type 0
   Beside u x = Tells u (beside x l)
 
-  combined : (x : Combined) → Alone (combined_of regs op x)
-  unfolding combined_of
-  combined x = if_both Alone _ refl refl
+  with_ge : (rd value : ℕ) (ge : Option ℕ) → Alone (put_with regs rd value ge)
+  unfolding put_with
+  with_ge rd value (Some ge) = refl
+  with_ge rd value None = refl
+
+  by_codes : (v : Option Variant) (o : Option Operation) → Beside (not (is_some v && is_some o)) (in_parallel_of regs op v o)
+  unfolding in_parallel_of combined_of
+  by_codes (Some v) (Some o) = still _ (with_ge _ _ _)
+  by_codes (Some v) None = refused
+  by_codes None o = refused
 
   in_parallel : Beside (not (allocated op)) (parallel_family_of regs op)
   unfolding parallel_family_of
-  in_parallel = if_not Beside (allocated op) (still _ (combined _)) refused
+  in_parallel = rw (allocated_is op) (by_codes _ _)
+
+  by_extension : (e : Option Extension) → Beside (is_none e) (extended_of regs op e)
+  unfolding extended_of
+  by_extension (Some e) = still _ refl
+  by_extension None = refused
+
+  extended : Beside (op ⟨ 21 ‥ 20 ⟩ == 1) (extend_family_of regs op)
+  unfolding extend_family_of
+  extended = rw (unextended_is op) (by_extension _)
 
   packed : Alone (packed_of regs op)
   unfolding packed_of
@@ -90,10 +109,10 @@ module _ (m : Machine) (op : ℕ) (regs l : List ℕ) where
   packs = if_both Alone _ packed saturated
 
   in_packing : (ge : ℕ) → Beside (packing_undefined op) (packing_of regs op ge)
-  unfolding packing_undefined packing_of extend_family_of reversal_of
+  unfolding packing_undefined packing_of reversal_of
   in_packing ge =
       if_pair Beside _ (still _ packs)
-      (if_pair Beside _ (if_test Beside _ refused (still _ refl))
+      (if_pair Beside _ extended
       (if_pair Beside _ (still _ refl)
       (if_pair Beside _ (still _ saturated16)
       (if_pair Beside _ (still _ refl)
