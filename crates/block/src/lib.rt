@@ -1,5 +1,5 @@
 // LDM and STM: on lent registers, and with S on the machine by value.
-#![tactic(auto)]
+#![tactic(auto, using(bits::specs::Cases::cases))]
 
 ghost use Rattle.std.specs.Prelude.{◌≡◌, ℕ, ◌<◌, length, set};
 ghost use Rattle.cpu.specs.With.{with_regs};
@@ -18,6 +18,7 @@ pub struct Plan {
     pub moved: u32,
 }
 
+#[tactic(auto, using(bits::specs::Cases::cases), unfolding(crate::specs::Block::list_of))]
 fn list_of(op: u32) -> u16
     ensures { result ≡ list_of op }
 {
@@ -25,6 +26,7 @@ fn list_of(op: u32) -> u16
     if low == 0 { 32768 } else { low }
 }
 
+#[tactic(auto, using(bits::specs::Cases::cases, bits::specs::Laws::Count::ones_le), unfolding(crate::specs::Block::span_of))]
 fn find_span(op: u32, list: u16) -> u32
     requires { list ≡ list_of op }
     ensures { result ≡ span_of op }
@@ -36,6 +38,7 @@ fn find_span(op: u32, list: u16) -> u32
     }
 }
 
+#[tactic(auto, using(bits::specs::Cases::cases), unfolding(crate::specs::Block::start_of))]
 fn find_start(regs: &[u32; 16], op: u32, moved: u32) -> u32
     ensures { result ≡ start_of regs.now op moved }
 {
@@ -167,6 +170,7 @@ impl Plan {
     }
 }
 
+#[tactic(auto, using(bits::specs::Cases::cases, crate::specs::Laws::Sources::stored_sources, transfer::specs::Laws::Guards::beside_is), unfolding(crate::specs::Block::store_of))]
 fn store(regs: &mut [u32; 16], op: u32, p: Plan, mem: &mut [u8]) -> Outcome
     requires { found_of p (length mem.old) ≡ None }
     ensures { (result, regs.new, mem.new) ≡ store_of p regs.old op mem.old }
@@ -177,6 +181,7 @@ fn store(regs: &mut [u32; 16], op: u32, p: Plan, mem: &mut [u8]) -> Outcome
     cpu::finish(regs)
 }
 
+#[tactic(auto, using(bits::specs::Cases::cases), unfolding(crate::specs::Block::continued_of))]
 fn go_on(regs: &mut [u32; 16], p: Plan) -> Outcome
     ensures { (result, regs.new) ≡ continued_of p regs.old }
 {
@@ -188,6 +193,7 @@ fn go_on(regs: &mut [u32; 16], p: Plan) -> Outcome
     }
 }
 
+#[tactic(auto, using(bits::specs::Cases::cases), unfolding(crate::specs::Block::load_of))]
 fn load(regs: &mut [u32; 16], op: u32, p: Plan, mem: &[u8]) -> Outcome
     requires { found_of p (length mem.now) ≡ None }
     ensures { (result, regs.new, mem.now) ≡ load_of p regs.old op mem.now }
@@ -197,11 +203,12 @@ fn load(regs: &mut [u32; 16], op: u32, p: Plan, mem: &[u8]) -> Outcome
     go_on(regs, p)
 }
 
+#[tactic(auto, using(bits::specs::Cases::cases, crate::specs::Laws::Ways::loads, crate::specs::Laws::Ways::stores, crate::specs::Laws::Ways::refuses), unfolding(crate::specs::Block::block_of))]
 pub fn execute(regs: &mut [u32; 16], op: u32, mem: &mut [u8]) -> Outcome
     ensures { (result, regs.new, mem.new) ≡ block_of regs.old op mem.old }
 {
     if op / 4194304 % 2 == 1 {
-        cpu::move_block()
+        Outcome::Block
     } else {
         let p = Plan::make(regs, op);
         match p.find_outside(mem.len()) {
@@ -212,7 +219,7 @@ pub fn execute(regs: &mut [u32; 16], op: u32, mem: &mut [u8]) -> Outcome
                     store(regs, op, p, mem)
                 }
             }
-            Some(at) => cpu::stop_with(Answer::Bus(at)),
+            Some(at) => Outcome::Stop(Answer::Bus(at)),
         }
     }
 }
@@ -224,6 +231,7 @@ fn take_user(m: Machine) -> [u32; 16]
     std::array::from_fn(|i| banks::read_user_reg(m, i as u32))
 }
 
+#[tactic(auto, using(bits::specs::Cases::cases, banks::specs::Banks::user_reg_of, crate::specs::Laws::Sources::stored_values), unfolding(crate::specs::UserBlock::user_store_of))]
 fn store_user(m: Machine, op: u32, p: Plan, mem: &mut [u8]) -> Machine
     requires { found_of p (length mem.old) ≡ None }
     ensures { (result, mem.new) ≡ user_store_of p m op mem.old }
@@ -244,6 +252,7 @@ fn write_base(m: Machine, op: u32, p: Plan) -> Machine
     out
 }
 
+#[tactic(auto, using(bits::specs::Cases::cases), unfolding(crate::specs::UserBlock::user_load_of))]
 fn load_user(m: Machine, op: u32, p: Plan, mem: &[u8]) -> Machine
     requires { found_of p (length mem.now) ≡ None }
     ensures { result ≡ user_load_of p m op mem.now }
@@ -267,6 +276,7 @@ fn load_return(m: Machine, op: u32, p: Plan, mem: &[u8]) -> Machine
     banks::exchange_to(banks::restore(out), out.regs[15])
 }
 
+#[tactic(auto, using(bits::specs::Cases::cases), unfolding(crate::specs::UserBlock::user_moved_of))]
 fn move_user(m: Machine, op: u32, p: Plan, mem: &mut [u8]) -> Machine
     requires { found_of p (length mem.old) ≡ None }
     ensures { (result, mem.new) ≡ user_moved_of p m op mem.old }

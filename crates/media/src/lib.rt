@@ -1,5 +1,5 @@
 // The ARMv6 media instructions, on lent registers.
-#![tactic(auto)]
+#![tactic(auto, using(bits::specs::Cases::cases))]
 
 ghost use Rattle.std.specs.Prelude.{◌≡◌, ◌<◌};
 ghost use Rattle.media.specs.Media.{variant_of, operation_of, combined_of, parallel_family_of, shifted_of, packed_of, saturate_of, saturate16_of, extension_of, addend_of, extend_family_of, selected_of, reversal_of, packing_of, dual_word_of, dual_long_of, most_word_of, dual_multiply_of, usad_of, media_of};
@@ -8,6 +8,7 @@ use cpu::Outcome;
 use lanes::{Combined, Extension, Operation, Variant};
 use shifter::ShiftType;
 
+#[tactic(auto, using(bits::specs::Cases::cases), unfolding(crate::specs::Media::variant_of))]
 fn variant_of(k: u32) -> Option<Variant>
     ensures { result ≡ variant_of k }
 {
@@ -22,6 +23,7 @@ fn variant_of(k: u32) -> Option<Variant>
     }
 }
 
+#[tactic(auto, using(bits::specs::Cases::cases), unfolding(crate::specs::Media::operation_of))]
 fn operation_of(k: u32) -> Option<Operation>
     ensures { result ≡ operation_of k }
 {
@@ -36,6 +38,7 @@ fn operation_of(k: u32) -> Option<Operation>
     }
 }
 
+#[tactic(auto, using(bits::specs::Cases::cases), unfolding(crate::specs::Media::combined_of, crate::specs::Media::put_with))]
 fn put_combined(regs: &mut [u32; 16], op: u32, x: Combined) -> Outcome
     ensures { (result, regs.new) ≡ combined_of regs.old op x }
 {
@@ -44,13 +47,14 @@ fn put_combined(regs: &mut [u32; 16], op: u32, x: Combined) -> Outcome
         Some(ge) => {
             regs[(op / 4096 % 16) as usize] = value;
             regs[15] = regs[15].wrapping_sub(4);
-            cpu::set_lanes(ge)
+            Outcome::Lanes(ge)
         }
         None => cpu::put(regs, op / 4096 % 16, value),
     }
 }
 
 // Parallel add and subtract.
+#[tactic(auto, using(bits::specs::Cases::cases), unfolding(crate::specs::Media::parallel_family_of, crate::specs::Media::in_parallel_of))]
 fn parallel(regs: &mut [u32; 16], op: u32) -> Outcome
     ensures { (result, regs.new) ≡ parallel_family_of regs.old op }
 {
@@ -67,6 +71,7 @@ fn parallel(regs: &mut [u32; 16], op: u32) -> Outcome
     }
 }
 
+#[tactic(auto, using(bits::specs::Cases::cases), unfolding(crate::specs::Media::shifted_of))]
 fn shift(regs: &[u32; 16], op: u32) -> u32
     ensures { result ≡ shifted_of regs.now op }
 {
@@ -81,6 +86,7 @@ fn shift(regs: &[u32; 16], op: u32) -> u32
 }
 
 // PKHBT, PKHTB.
+#[tactic(auto, using(bits::specs::Cases::cases), unfolding(crate::specs::Media::packed_of))]
 fn pkh(regs: &mut [u32; 16], op: u32) -> Outcome
     ensures { (result, regs.new) ≡ packed_of regs.old op }
 {
@@ -94,6 +100,7 @@ fn pkh(regs: &mut [u32; 16], op: u32) -> Outcome
 }
 
 // SSAT, USAT; not one function with the next, since the operand and the width have other fields.
+#[tactic(auto, using(bits::specs::Cases::cases), unfolding(crate::specs::Media::saturate_of))]
 fn saturate32(regs: &mut [u32; 16], op: u32) -> Outcome
     ensures { (result, regs.new) ≡ saturate_of regs.old op }
 {
@@ -106,6 +113,7 @@ fn saturate32(regs: &mut [u32; 16], op: u32) -> Outcome
 }
 
 // SSAT16, USAT16.
+#[tactic(auto, using(bits::specs::Cases::cases), unfolding(crate::specs::Media::saturate16_of))]
 fn saturate16(regs: &mut [u32; 16], op: u32) -> Outcome
     ensures { (result, regs.new) ≡ saturate16_of regs.old op }
 {
@@ -117,6 +125,7 @@ fn saturate16(regs: &mut [u32; 16], op: u32) -> Outcome
     }
 }
 
+#[tactic(auto, using(bits::specs::Cases::cases), unfolding(crate::specs::Media::extension_of))]
 fn extension_of(k: u32) -> Option<Extension>
     ensures { result ≡ extension_of k }
 {
@@ -131,6 +140,7 @@ fn extension_of(k: u32) -> Option<Extension>
     }
 }
 
+#[tactic(auto, using(bits::specs::Cases::cases), unfolding(crate::specs::Media::addend_of))]
 fn addend(regs: &[u32; 16], op: u32) -> u32
     ensures { result ≡ addend_of regs.now op }
 {
@@ -142,6 +152,7 @@ fn addend(regs: &[u32; 16], op: u32) -> u32
 }
 
 // SXTAB16, SXTAB, SXTAH, UXTAB16, UXTAB, UXTAH, and the same with no addend.
+#[tactic(auto, using(bits::specs::Cases::cases), unfolding(crate::specs::Media::extend_family_of, crate::specs::Media::extended_of))]
 fn extend(regs: &mut [u32; 16], op: u32) -> Outcome
     ensures { (result, regs.new) ≡ extend_family_of regs.old op }
 {
@@ -167,6 +178,7 @@ fn select(regs: &mut [u32; 16], op: u32, ge: u8) -> Outcome
 }
 
 // REV, REV16, RBIT, REVSH.
+#[tactic(auto, using(bits::specs::Cases::cases), unfolding(crate::specs::Media::reversal_of))]
 fn reverse(regs: &mut [u32; 16], op: u32) -> Outcome
     ensures { (result, regs.new) ≡ reversal_of regs.old op }
 {
@@ -182,6 +194,7 @@ fn reverse(regs: &mut [u32; 16], op: u32) -> Outcome
 }
 
 // No `match` on numbers: bits 7-5 choose in part by being even.
+#[tactic(auto, using(bits::specs::Cases::cases), unfolding(crate::specs::Media::packing_of))]
 fn pack_sat_extend(regs: &mut [u32; 16], op: u32, ge: u8) -> Outcome
     ensures { (result, regs.new) ≡ packing_of regs.old op ge }
 {
@@ -212,6 +225,7 @@ fn pack_sat_extend(regs: &mut [u32; 16], op: u32, ge: u8) -> Outcome
 }
 
 // SMLAD, SMLSD, SMUAD, SMUSD.
+#[tactic(auto, using(bits::specs::Cases::cases), unfolding(crate::specs::Media::dual_word_of))]
 fn smlad(regs: &mut [u32; 16], op: u32) -> Outcome
     ensures { (result, regs.new) ≡ dual_word_of regs.old op }
 {
@@ -240,6 +254,7 @@ fn smlald(regs: &mut [u32; 16], op: u32) -> Outcome
 }
 
 // SMMLA, SMMLS, SMMUL.
+#[tactic(auto, using(bits::specs::Cases::cases), unfolding(crate::specs::Media::most_word_of))]
 fn smmla(regs: &mut [u32; 16], op: u32) -> Outcome
     ensures { (result, regs.new) ≡ most_word_of regs.old op }
 {
@@ -263,6 +278,7 @@ fn smmla(regs: &mut [u32; 16], op: u32) -> Outcome
     }
 }
 
+#[tactic(auto, using(bits::specs::Cases::cases), unfolding(crate::specs::Media::dual_multiply_of))]
 fn dual_multiply(regs: &mut [u32; 16], op: u32) -> Outcome
     ensures { (result, regs.new) ≡ dual_multiply_of regs.old op }
 {
@@ -275,6 +291,7 @@ fn dual_multiply(regs: &mut [u32; 16], op: u32) -> Outcome
 }
 
 // USAD8, USADA8.
+#[tactic(auto, using(bits::specs::Cases::cases), unfolding(crate::specs::Media::usad_of))]
 fn usad8(regs: &mut [u32; 16], op: u32) -> Outcome
     ensures { (result, regs.new) ≡ usad_of regs.old op }
 {
@@ -288,6 +305,7 @@ fn usad8(regs: &mut [u32; 16], op: u32) -> Outcome
     }
 }
 
+#[tactic(auto, using(bits::specs::Cases::cases), unfolding(crate::specs::Media::media_of))]
 pub fn execute(regs: &mut [u32; 16], op: u32, ge: u8) -> Outcome
     ensures { (result, regs.new) ≡ media_of regs.old op ge }
 {

@@ -1,5 +1,5 @@
 // The multiplies and the saturating sums, on lent registers.
-#![tactic(auto)]
+#![tactic(auto, using(bits::specs::Cases::cases))]
 
 ghost use Rattle.std.specs.Prelude.{◌≡◌, ◌<◌};
 ghost use Rattle.multiply.specs.Multiply.{long_put_of, settled_of, short_of, wide_of, wide_settled_of, long_multiply_of, marked_of, halfword_of, saturating_of};
@@ -8,6 +8,7 @@ use alu::Fitted;
 use cpu::Outcome;
 use products::Long;
 
+#[tactic(auto, using(bits::specs::Cases::cases), unfolding(crate::specs::Multiply::settled_of))]
 fn settle(regs: &mut [u32; 16], op: u32, value: u32, c: bool, v: bool) -> Outcome
     ensures { (result, regs.new) ≡ settled_of regs.old op value c v }
 {
@@ -22,6 +23,7 @@ fn settle(regs: &mut [u32; 16], op: u32, value: u32, c: bool, v: bool) -> Outcom
 }
 
 // MUL, MLA.
+#[tactic(auto, using(bits::specs::Cases::cases), unfolding(crate::specs::Multiply::short_of))]
 pub fn short(regs: &mut [u32; 16], op: u32, c: bool, v: bool) -> Outcome
     ensures { (result, regs.new) ≡ short_of regs.old op c v }
 {
@@ -45,6 +47,7 @@ pub fn put_long(regs: &mut [u32; 16], op: u32, x: Long) -> Outcome
     cpu::put(regs, op / 65536 % 16, x.hi)
 }
 
+#[tactic(auto, using(bits::specs::Cases::cases), unfolding(crate::specs::Multiply::wide_settled_of))]
 fn settle_long(regs: &mut [u32; 16], op: u32, x: Long, c: bool, v: bool) -> Outcome
     ensures { (result, regs.new) ≡ wide_settled_of regs.old op x c v }
 {
@@ -52,12 +55,13 @@ fn settle_long(regs: &mut [u32; 16], op: u32, x: Long, c: bool, v: bool) -> Outc
         regs[(op / 4096 % 16) as usize] = x.lo;
         regs[(op / 65536 % 16) as usize] = x.hi;
         regs[15] = regs[15].wrapping_sub(4);
-        cpu::set_flags(0x8000_0000 <= x.hi, (x.lo == 0) & (x.hi == 0), c, v)
+        Outcome::Flags(0x8000_0000 <= x.hi, (x.lo == 0) & (x.hi == 0), c, v)
     } else {
         put_long(regs, op, x)
     }
 }
 
+#[tactic(auto, using(bits::specs::Cases::cases), unfolding(crate::specs::Multiply::wide_of))]
 fn multiply_long(regs: &[u32; 16], op: u32) -> Long
     ensures { result ≡ wide_of regs.now op }
 {
@@ -81,6 +85,7 @@ fn multiply_long(regs: &[u32; 16], op: u32) -> Long
 }
 
 // UMULL, UMLAL, SMULL, SMLAL, UMAAL.
+#[tactic(auto, using(bits::specs::Cases::cases), unfolding(crate::specs::Multiply::long_multiply_of))]
 pub fn long(regs: &mut [u32; 16], op: u32, c: bool, v: bool) -> Outcome
     ensures { (result, regs.new) ≡ long_multiply_of regs.old op c v }
 {
@@ -108,6 +113,7 @@ pub fn mark(regs: &mut [u32; 16], rd: u32, x: Fitted) -> Outcome
 }
 
 // SMLA<x><y>, SMLAW<y>, SMULW<y>, SMLAL<x><y>, SMUL<x><y>.
+#[tactic(auto, using(bits::specs::Cases::cases), unfolding(crate::specs::Multiply::halfword_of))]
 pub fn halfword(regs: &mut [u32; 16], op: u32) -> Outcome
     ensures { (result, regs.new) ≡ halfword_of regs.old op }
 {
@@ -144,6 +150,7 @@ pub fn halfword(regs: &mut [u32; 16], op: u32) -> Outcome
 }
 
 // QADD, QSUB, QDADD, QDSUB.
+#[tactic(auto, using(bits::specs::Cases::cases), unfolding(crate::specs::Multiply::saturating_of))]
 pub fn saturating(regs: &mut [u32; 16], op: u32) -> Outcome
     ensures { (result, regs.new) ≡ saturating_of regs.old op }
 {
