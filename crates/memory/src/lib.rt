@@ -78,7 +78,7 @@ pub fn store(mem: &mut [u8], at: u32, width: Width, value: u32)
     }
 }
 
-// Whether an access has a byte outside.
+// Whether an access has a byte outside; it says so of any number of bytes, and so does the next.
 pub fn reaches_out(len: usize, at: u32, width: u32) -> bool
     ensures { result ≡ reaches_out len at width }
 {

@@ -27,13 +27,6 @@ stored_by p values l = stored_list_of p (λ r. get_or values r 0) l
 abbrev pub Values : List ℕ → (ℕ → ℕ) → ℕ → Type 0
 Values values source n = (r : ℕ) → r < n → get_or values r 0 ≡ source r
 
-pub values_next : (values : List ℕ) (source : ℕ → ℕ) (n v : ℕ) → n < length values → v ≡ source n → Values values source n → Values (set values n v) source (n + 1)
-values_next values source n v k e h r b = go (r == n) refl
-  where
-    go : (t : Bool) → (r == n) ≡ t → get_or (set values n v) r 0 ≡ source r
-    go true d = rw (eqb-true r n d) (get_or-set_same values n v 0 k ∙ e)
-    go false d = let f : r ≡ n → ⊥ = eqb-false r n d in get_or-set_other values n r v 0 f ∙ h r (omega arith)
-
 pub stored_values : (p : Plan) (source : ℕ → ℕ) (values l : List ℕ) → Values values source 16 → stored_by p values l ≡ stored_list_of p source l
 stored_values p source values l h =
     ap (stored_of l p.start (count_of p.list)) (same_registers (λ r. get_or values r 0) source p.list h)
