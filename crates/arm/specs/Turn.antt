@@ -1,5 +1,5 @@
 -- One instruction on the sixteen registers and the lent bytes: the condition, the family, and what the family does.
-use Rattle.std.specs.Prelude.{Bool, true, false, List, ℕ, ◌+◌, ◌%◌, ◌^◌, set}
+use Rattle.std.specs.Prelude.{List, ℕ, ◌+◌, ◌%◌, ◌^◌, set}
 use Rattle.bits.specs.Cases.{when◌then◌else◌}
 use Rattle.bits.specs.Fields.{◌⟨◌‥◌⟩}
 use Rattle.psr.specs.Status.{passed_of}
@@ -7,9 +7,8 @@ use Rattle.decode.specs.declared.Family.{Family}
 use Rattle.decode.specs.declared.Family.TheVariants.{DataProcessing, MultiplyShort, MultiplyLong, Halfword, Saturating, Swap, Exclusive, Extra, StatusMove, BranchExchange, CountZeros, Breakpoint, Single, Media, Block, Branch, Coprocessor, CoprocessorMove, Supervisor, Undefined, BranchLinkExchange, ClearExclusive, ChangeState, Preload}
 use Rattle.decode.specs.Families.{family_of}
 use Rattle.cpu.specs.declared.Outcome.{Outcome}
-use Rattle.cpu.specs.declared.Tag.{Tag}
-use Rattle.cpu.specs.declared.Tag.TheVariants.{None, At}
-use Rattle.cpu.specs.Outcomes.{nothing, moves, done_of, undefined_of}
+use Rattle.cpu.specs.declared.Outcome.TheVariants as outcome
+use Rattle.cpu.specs.Outcomes.{done_of, undefined_of}
 use Rattle.transfer.specs.Transfers.{beside}
 use Rattle.dataproc.specs.Dataproc.{dataproc_of}
 use Rattle.multiply.specs.Multiply.{short_of, long_multiply_of, halfword_of, saturating_of}
@@ -20,25 +19,7 @@ use Rattle.loadstore.specs.Single.{single_of}
 use Rattle.loadstore.specs.Extra.{extra_of}
 use Rattle.exclusive.specs.Exclusive.{swap_of, exclusive_of}
 use Rattle.block.specs.Block.{block_of}
-
--- what an instruction reads of the machine beside its registers: C, V, GE and the exclusive tag
-pub record Seen : Type 0 where
-  pub c : Bool
-  pub v : Bool
-  pub ge : ℕ
-  pub tag : Tag
-
-abbrev pub seen : Bool → Bool → ℕ → Tag → Seen
-seen c v ge tag = record { c = c; v = v; ge = ge; tag = tag }
-
--- whether there is a tag, and its address
-abbrev pub is_tagged : Tag → Bool
-is_tagged None = false
-is_tagged (At address) = true
-
-abbrev pub tag_address : Tag → ℕ
-tag_address None = 0
-tag_address (At address) = address
+use Rattle.arm.specs.declared.Seen.{Seen}
 
 -- the families; r15 in regs is A + 8
 unfoldable pub effect_of : Family → List ℕ → ℕ → Seen → List ℕ → Outcome × List ℕ × List ℕ
@@ -56,10 +37,10 @@ effect_of Single regs op s l = single_of regs op s.c l
 effect_of Extra regs op s l = extra_of regs op l
 effect_of Block regs op s l = block_of regs op l
 effect_of Swap regs op s l = swap_of regs op l
-effect_of Exclusive regs op s l = exclusive_of regs op (is_tagged s.tag) (tag_address s.tag) l
+effect_of Exclusive regs op s l = exclusive_of regs op s.tag l
 effect_of ClearExclusive regs op s l = beside (clrex_of regs) l
-effect_of StatusMove regs op s l = (moves, regs, l)
-effect_of ChangeState regs op s l = (moves, regs, l)
+effect_of StatusMove regs op s l = (outcome.Moves, regs, l)
+effect_of ChangeState regs op s l = (outcome.Moves, regs, l)
 effect_of Preload regs op s l = beside (done_of regs) l
 effect_of Supervisor regs op s l = beside (swi_of regs op) l
 effect_of Breakpoint regs op s l = beside (bkpt_of regs op) l
@@ -68,7 +49,7 @@ effect_of CoprocessorMove regs op s l = beside (coprocessor_move_of regs op) l
 effect_of Undefined regs op s l = beside (undefined_of regs op) l
 
 -- A3.2: an instruction whose condition fails does nothing but go on to A + 4
-unfoldable pub turn_of : List ℕ → ℕ → ℕ → Bool → Bool → Seen → List ℕ → Outcome × List ℕ × List ℕ
-turn_of regs at op n z s l =
-    when passed_of (op ⟨ 31 ‥ 28 ⟩) n z s.c s.v then effect_of (family_of op) (set regs 15 ((at + 8) % 2 ^ 32)) op s l
-    else (nothing, set regs 15 ((at + 4) % 2 ^ 32), l)
+unfoldable pub turn_of : List ℕ → ℕ → ℕ → Seen → List ℕ → Outcome × List ℕ × List ℕ
+turn_of regs at op s l =
+    when passed_of (op ⟨ 31 ‥ 28 ⟩) s.n s.z s.c s.v then effect_of (family_of op) (set regs 15 ((at + 8) % 2 ^ 32)) op s l
+    else (outcome.Nothing, set regs 15 ((at + 4) % 2 ^ 32), l)

@@ -44,6 +44,24 @@ sound_on f h =
       ge_fits = h;
     }
 
+-- GE is what is left to set
+abbrev pub is_lanes : Outcome → Bool
+is_lanes Nothing = false
+is_lanes (Flags n z c v) = false
+is_lanes Sticky = false
+is_lanes (Lanes ge) = true
+is_lanes (Exchange t) = false
+is_lanes (Tagged at) = false
+is_lanes Untagged = false
+is_lanes (Return at) = false
+is_lanes Moves = false
+is_lanes Block = false
+is_lanes (Call number) = false
+is_lanes (Stop answer) = false
+
+pub sound_going : {regs l : List ℕ} {o : Outcome} {regs' l' : List ℕ} → keeps o ≡ false → is_lanes o ≡ false → Sound regs l (o, regs', l')
+sound_going f g = sound_on f (λ ge e. never g (ap is_lanes e))
+
 -- an outcome that stops with everything as it came
 pub sound_stop : {regs l : List ℕ} (a : Answer) → refuses a ≡ true → Sound regs l (Stop a, regs, l)
 sound_stop a e = record { registers = λ _. refl; bytes = λ _. refl; refusal = λ b p. cc; ge_fits = λ g p. let z : ◌≡◌ {A = ℕ} 0 1 = cc in omega arith }
@@ -55,4 +73,4 @@ sound_wait = record { registers = λ _. refl; bytes = λ _. refl; refusal = λ b
 pub sound_sticky : {regs l : List ℕ} (on : Bool) {regs' l' : List ℕ} → Sound regs l (sticky on, regs', l')
 unfolding sticky
 sound_sticky {regs} {l} on {regs'} {l'} =
-    if_both (λ (o : Outcome). Sound regs l (o, regs', l')) on (sound_on refl (λ g p. let z : ◌≡◌ {A = ℕ} 0 1 = cc in omega arith)) (sound_on refl (λ g p. let z : ◌≡◌ {A = ℕ} 0 1 = cc in omega arith))
+    if_both (λ (o : Outcome). Sound regs l (o, regs', l')) on (sound_going refl refl) (sound_going refl refl)
