@@ -6,6 +6,7 @@ use Rattle.psr.specs.Status.{passed_of}
 use Rattle.decode.specs.declared.Family.{Family}
 use Rattle.decode.specs.declared.Family.TheVariants.{DataProcessing, MultiplyShort, MultiplyLong, Halfword, Saturating, Swap, Exclusive, Extra, StatusMove, BranchExchange, CountZeros, Breakpoint, Single, Media, Block, Branch, Coprocessor, CoprocessorMove, Supervisor, Undefined, BranchLinkExchange, ClearExclusive, ChangeState, Preload}
 use Rattle.decode.specs.Families.{family_of}
+use Rattle.cpu.specs.declared.Machine.{Machine}
 use Rattle.cpu.specs.declared.Outcome.{Outcome}
 use Rattle.cpu.specs.declared.Outcome.TheVariants as outcome
 use Rattle.cpu.specs.Outcomes.{done_of, undefined_of}
@@ -20,6 +21,10 @@ use Rattle.loadstore.specs.Extra.{extra_of}
 use Rattle.exclusive.specs.Exclusive.{swap_of, exclusive_of}
 use Rattle.block.specs.Block.{block_of}
 use Rattle.arm.specs.declared.Seen.{Seen}
+
+-- what an instruction reads of a machine beside its registers
+abbrev pub seen_of : Machine → Seen
+seen_of m = record { n = m.cpsr.n; z = m.cpsr.z; c = m.cpsr.c; v = m.cpsr.v; ge = m.cpsr.ge; tag = m.tag }
 
 -- the families; r15 in regs is A + 8
 unfoldable pub effect_of : Family → List ℕ → ℕ → Seen → List ℕ → Outcome × List ℕ × List ℕ

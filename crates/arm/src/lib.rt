@@ -2,10 +2,10 @@
 #![tactic(auto, using(bits::specs::Cases::cases))]
 
 ghost use Rattle.std.specs.Prelude.{◌≡◌, true};
-ghost use Rattle.arm.specs.Turn.{effect_of, turn_of};
+ghost use Rattle.arm.specs.Turn.{seen_of, effect_of, turn_of};
 ghost use Rattle.arm.specs.Laws.Cold.{is_cold};
 
-use cpu::Outcome;
+use cpu::{Machine, Outcome};
 use decode::Family;
 
 // What an instruction reads of the machine beside its registers: the flags, GE and the exclusive tag.
@@ -17,6 +17,21 @@ pub struct Seen {
     pub v: bool,
     pub ge: u8,
     pub tag: Option<u32>,
+}
+
+impl Seen {
+    pub fn of(m: &Machine) -> Seen
+        ensures { result ≡ seen_of m.now }
+    {
+        Seen {
+            n: m.cpsr.n,
+            z: m.cpsr.z,
+            c: m.cpsr.c,
+            v: m.cpsr.v,
+            ge: m.cpsr.ge,
+            tag: m.tag,
+        }
+    }
 }
 
 // The families that are seldom met stand behind one call, so that the others stay inlined in the dispatcher.

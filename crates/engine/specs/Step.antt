@@ -1,5 +1,5 @@
 -- A step (document 01, sections 1 and 2): the gate, the fetch, the instruction, and what its outcome changes in the machine.
-use Rattle.std.specs.Prelude.{Bool, true, not, ◌&&◌, List, ℕ, ◌%◌, length, get_or, set, ◌==◌}
+use Rattle.std.specs.Prelude.{Bool, true, not, Some, None, Result, Ok, Err, ◌&&◌, List, ℕ, ◌%◌, length, get_or, set, ◌==◌}
 use Rattle.bits.specs.Cases.{when◌then◌else◌, ◌<?◌}
 use Rattle.psr.specs.With.{with_nzcv, with_q, with_ge, with_t}
 use Rattle.memory.specs.Bytes.{word_at}
@@ -7,17 +7,14 @@ use Rattle.memory.specs.Plans.{reaches_out}
 use Rattle.cpu.specs.declared.Machine.{Machine}
 use Rattle.cpu.specs.declared.Answer.{Answer}
 use Rattle.cpu.specs.declared.Answer.TheVariants.{Done, Supervisor, Thumb, Fetch, BadState, TooLong}
-use Rattle.cpu.specs.declared.Kind.{Kind}
-use Rattle.cpu.specs.declared.Kind.TheVariants.{Nothing, Flags, Sticky, Lanes, Exchange, Tagged, Untagged, Return, Moves, Block, Call, Stop}
 use Rattle.cpu.specs.declared.Outcome.{Outcome}
-use Rattle.cpu.specs.declared.Tag.TheVariants.{None, At}
-use Rattle.cpu.specs.Answers.{bad_of, is_done}
+use Rattle.cpu.specs.declared.Outcome.TheVariants.{Nothing, Flags, Sticky, Lanes, Exchange, Tagged, Untagged, Return, Moves, Block, Call, Stop}
+use Rattle.cpu.specs.Answers.{bad_of}
 use Rattle.cpu.specs.With.{with_regs, with_cpsr, with_tag}
 use Rattle.banks.specs.Banks.{returned_of}
 use Rattle.moves.specs.Moves.{moves_of}
-use Rattle.block.specs.declared.Blocked.{Blocked}
 use Rattle.block.specs.UserBlock.{user_block_of}
-use Rattle.arm.specs.Turn.{seen, turn_of}
+use Rattle.arm.specs.Turn.{seen_of, turn_of}
 use Rattle.engine.specs.declared.Stepped.{Stepped}
 
 abbrev pub stepped : Machine → Answer → Stepped
@@ -32,25 +29,24 @@ abbrev pub refused : Machine → ℕ → Answer → Stepped
 refused m at answer = stepped (with_regs m (set m.regs 15 at)) answer
 
 -- a block transfer with S, which can still meet an access outside
-unfoldable pub blocked_of : ℕ → Blocked × List ℕ → Stepped × List ℕ
-blocked_of at x =
-    when is_done x.0.answer then (going x.0.machine, x.1)
-    else (refused x.0.machine at x.0.answer, x.1)
+unfoldable pub blocked_of : Machine → ℕ → Result Machine Answer → List ℕ → Stepped × List ℕ
+blocked_of m at (Ok done) l = (going done, l)
+blocked_of m at (Err answer) l = (refused m at answer, l)
 
 -- what an outcome changes in the machine m, whose registers the family has written; the instruction op stood at address `at`
-unfoldable pub settled_of : Kind → Machine → ℕ → ℕ → Outcome → List ℕ → Stepped × List ℕ
-settled_of Nothing m at op o l = (going m, l)
-settled_of Flags m at op o l = (going (with_cpsr m (with_nzcv m.cpsr o.n o.z o.c o.v)), l)
-settled_of Sticky m at op o l = (going (with_cpsr m (with_q m.cpsr true)), l)
-settled_of Lanes m at op o l = (going (with_cpsr m (with_ge m.cpsr o.ge)), l)
-settled_of Exchange m at op o l = (going (with_cpsr m (with_t m.cpsr o.t)), l)
-settled_of Tagged m at op o l = (going (with_tag m (At o.at)), l)
-settled_of Untagged m at op o l = (going (with_tag m None), l)
-settled_of Return m at op o l = (going (returned_of m o.at), l)
-settled_of Moves m at op o l = (going (moves_of m op), l)
-settled_of Block m at op o l = blocked_of at (user_block_of m op l)
-settled_of Call m at op o l = (stepped m (Supervisor o.at), l)
-settled_of Stop m at op o l = (refused m at o.answer, l)
+unfoldable pub settled_of : Outcome → Machine → ℕ → ℕ → List ℕ → Stepped × List ℕ
+settled_of Nothing m at op l = (going m, l)
+settled_of (Flags n z c v) m at op l = (going (with_cpsr m (with_nzcv m.cpsr n z c v)), l)
+settled_of Sticky m at op l = (going (with_cpsr m (with_q m.cpsr true)), l)
+settled_of (Lanes ge) m at op l = (going (with_cpsr m (with_ge m.cpsr ge)), l)
+settled_of (Exchange t) m at op l = (going (with_cpsr m (with_t m.cpsr t)), l)
+settled_of (Tagged address) m at op l = (going (with_tag m (Some address)), l)
+settled_of Untagged m at op l = (going (with_tag m None), l)
+settled_of (Return to) m at op l = (going (returned_of m to), l)
+settled_of Moves m at op l = (going (moves_of m op), l)
+settled_of Block m at op l = blocked_of m at (user_block_of m op l).0 (user_block_of m op l).1
+settled_of (Call number) m at op l = (stepped m (Supervisor number), l)
+settled_of (Stop answer) m at op l = (refused m at answer, l)
 
 -- the address A of the next instruction
 abbrev pub next_of : Machine → ℕ
@@ -58,13 +54,12 @@ next_of m = get_or m.regs 15 0
 
 -- the instruction op at A
 abbrev pub turned_of : Machine → ℕ → List ℕ → Outcome × List ℕ × List ℕ
-turned_of m op l =
-    turn_of m.regs (next_of m) op m.cpsr.n m.cpsr.z (seen m.cpsr.c m.cpsr.v m.cpsr.ge m.tag) l
+turned_of m op l = turn_of m.regs (next_of m) op (seen_of m) l
 
 unfoldable pub executed_of : Machine → ℕ → List ℕ → Stepped × List ℕ
 executed_of m op l =
     let x : Outcome × List ℕ × List ℕ = turned_of m op l in
-    settled_of x.0.kind (with_regs m x.1) (next_of m) op x.0 x.2
+    settled_of x.0 (with_regs m x.1) (next_of m) op x.2
 
 -- answer 6: A is no multiple of 4, or A + 4, not wrapped, lies past the end
 unfoldable pub fetches : List ℕ → ℕ → Bool

@@ -2,14 +2,11 @@ use Rattle.engine.specs.Laws.Walk.{run_timed, run_ended, run_shut}
 use Rattle.std.proofs.Common.{sym, ◌∙◌}
 use Rattle.engine.proofs.run.Goals as goal
 
-pub go-f-requires : goal.go-f-requires
-go-f-requires c = sym c.admit-gate.ensures ∙ c.in-Open.is
-
 pub returns-then-is_done : goal.returns-then-is_done
-returns-then-is_done c = run_timed _ _ _ _ c.go-f.ensures (sym c.is_done.ensures ∙ c.if-is_done.true)
+returns-then-is_done c = run_timed _ _ _ c.go-f.ensures (sym c.is_done.ensures ∙ c.if-is_done.true)
 
 pub returns-else-is_done : goal.returns-else-is_done
-returns-else-is_done c = run_ended _ _ _ _ c.go-f.ensures (sym c.is_done.ensures ∙ c.if-is_done.false)
+returns-else-is_done c = run_ended _ _ _ c.go-f.ensures (sym c.is_done.ensures ∙ c.if-is_done.false)
 
-pub returns-in-Shut : goal.returns-in-Shut
-returns-in-Shut c = run_shut _ _ _ (sym c.in-Shut.is ∙ c.admit-gate.ensures) _
+pub returns-in-Err : goal.returns-in-Err
+returns-in-Err c = run_shut _ _ _ (sym c.in-Err.is ∙ c.admit.ensures) _

@@ -4,6 +4,3 @@ use Rattle.engine.proofs.run_plain.Given as goal
 
 abbrev pub invariant-loop-k : goal.invariant-loop-k
 invariant-loop-k l = (l.k ≤ l.budget) × (length l.mem ≡ length l.initial.mem) × (go_of l.budget 0 l.initial.cur l.initial.mem ≡ go_of (l.budget - l.k) l.k l.cur l.mem)
-
-abbrev pub decreases-loop-k : goal.decreases-loop-k
-decreases-loop-k l = l.budget - l.k

@@ -1,22 +1,20 @@
 -- A step that answers neither 0 nor 1 leaves the machine and every byte as they were.
-use Rattle.std.specs.Prelude.{◌≡◌, true, false, List, ℕ, ◌+◌, ◌%◌, ◌^◌, set}
+use Rattle.std.specs.Prelude.{◌≡◌, true, false, Option, Some, None, Result, List, ℕ, ◌+◌, ◌%◌, ◌^◌, set}
 use Rattle.std.proofs.Math.Path.{refl}
 use Rattle.std.proofs.Common.{sym, ap, ◌∙◌, set-set}
 use Rattle.std.proofs.lemmas.Bool.{false≢true}
 use Rattle.std.proofs.lemmas.List.{set-get_or}
-use Rattle.bits.specs.Cases.{when◌then◌else◌, if_both}
-use Rattle.memory.specs.declared.Found.{Found}
-use Rattle.memory.specs.declared.Found.TheVariants.{Inside, Outside}
+use Rattle.bits.specs.Cases.{if_both}
 use Rattle.memory.specs.Bytes.{word_at}
 use Rattle.cpu.specs.declared.Machine.{Machine}
-use Rattle.cpu.specs.declared.Kind.{Kind}
-use Rattle.cpu.specs.declared.Kind.TheVariants as kind
+use Rattle.cpu.specs.declared.Answer.{Answer}
+use Rattle.cpu.specs.declared.Outcome.TheVariants as outcome
 use Rattle.cpu.specs.declared.Outcome.{Outcome}
 use Rattle.cpu.specs.Answers.{refuses}
 use Rattle.cpu.specs.With.{with_regs}
 use Rattle.cpu.specs.Laws.Sound.{keeps}
 use Rattle.block.specs.UserBlock.{user_guarded_of, user_block_of}
-use Rattle.arm.specs.Turn.{seen}
+use Rattle.arm.specs.Turn.{seen_of}
 use Rattle.arm.specs.Laws.Sound.{sound_turn}
 use Rattle.engine.specs.declared.Stepped.{Stepped}
 use Rattle.engine.specs.Step.{settled_of, blocked_of, next_of, turned_of, executed_of, taken_of, given_of, gated_of, step_of, step_with_of}
@@ -41,37 +39,39 @@ module _ (m : Machine) (l : List ℕ) where
       ap (λ (y : List ℕ). with_regs m y)
       (ap (λ (y : List ℕ). set y 15 (next_of m)) e ∙ set-set m.regs 15 ((next_of m + 8) % 2 ^ 32) (next_of m) ∙ set-get_or m.regs 15 0)
 
-  as_user : (op : ℕ) (f : Found) (g : List ℕ) (done : Machine × List ℕ) → g ≡ lent → AsBefore m l (blocked_of (next_of m) (user_guarded_of f (with_regs m g) l done))
-  unfolding blocked_of user_guarded_of when◌then◌else◌
-  as_user op Inside g done e = as_done refl
-  as_user op (Outside address) g done e = as_still (back e) refl
+  as_user : (f : Option ℕ) (g : List ℕ) (done : Machine × List ℕ) → g ≡ lent
+      → (let x : Result Machine Answer × List ℕ = user_guarded_of f l done in AsBefore m l (blocked_of (with_regs m g) (next_of m) x.0 x.1))
+  unfolding blocked_of user_guarded_of
+  as_user None g done e = as_done refl
+  as_user (Some address) g done e = as_still (back e) refl
 
-  as_block : (op : ℕ) (g l' : List ℕ) → g ≡ lent → l' ≡ l → AsBefore m l (blocked_of (next_of m) (user_block_of (with_regs m g) op l'))
+  as_block : (op : ℕ) (g l' : List ℕ) → g ≡ lent → l' ≡ l
+      → (let x : Result Machine Answer × List ℕ = user_block_of (with_regs m g) op l' in AsBefore m l (blocked_of (with_regs m g) (next_of m) x.0 x.1))
   unfolding user_block_of
-  as_block op g l' e p = rw p (as_user op _ g _ e)
+  as_block op g l' e p = rw p (as_user _ g _ e)
 
-  as_kind : (q : Kind) (op : ℕ) (o : Outcome) (g l' : List ℕ) → (keeps q ≡ true → g ≡ lent) → (keeps q ≡ true → l' ≡ l)
-      → AsBefore m l (settled_of q (with_regs m g) (next_of m) op o l')
+  as_settled : (o : Outcome) (op : ℕ) (g l' : List ℕ) → (keeps o ≡ true → g ≡ lent) → (keeps o ≡ true → l' ≡ l)
+      → AsBefore m l (settled_of o (with_regs m g) (next_of m) op l')
   unfolding settled_of
-  as_kind kind.Nothing op o g l' r b = as_done refl
-  as_kind kind.Flags op o g l' r b = as_done refl
-  as_kind kind.Sticky op o g l' r b = as_done refl
-  as_kind kind.Lanes op o g l' r b = as_done refl
-  as_kind kind.Exchange op o g l' r b = as_done refl
-  as_kind kind.Tagged op o g l' r b = as_done refl
-  as_kind kind.Untagged op o g l' r b = as_done refl
-  as_kind kind.Return op o g l' r b = as_done refl
-  as_kind kind.Moves op o g l' r b = as_done refl
-  as_kind kind.Block op o g l' r b = as_block op g l' (r refl) (b refl)
-  as_kind kind.Call op o g l' r b = as_done refl
-  as_kind kind.Stop op o g l' r b = as_still (back (r refl)) (b refl)
+  as_settled outcome.Nothing op g l' r b = as_done refl
+  as_settled (outcome.Flags n z c v) op g l' r b = as_done refl
+  as_settled outcome.Sticky op g l' r b = as_done refl
+  as_settled (outcome.Lanes ge) op g l' r b = as_done refl
+  as_settled (outcome.Exchange t) op g l' r b = as_done refl
+  as_settled (outcome.Tagged a) op g l' r b = as_done refl
+  as_settled outcome.Untagged op g l' r b = as_done refl
+  as_settled (outcome.Return to) op g l' r b = as_done refl
+  as_settled outcome.Moves op g l' r b = as_done refl
+  as_settled outcome.Block op g l' r b = as_block op g l' (r refl) (b refl)
+  as_settled (outcome.Call number) op g l' r b = as_done refl
+  as_settled (outcome.Stop answer) op g l' r b = as_still (back (r refl)) (b refl)
 
   as_executed : (op : ℕ) → AsBefore m l (executed_of m op l)
   unfolding executed_of
   as_executed op =
       let x = turned_of m op l in
-      let s = sound_turn m.regs (next_of m) op m.cpsr.n m.cpsr.z (seen m.cpsr.c m.cpsr.v m.cpsr.ge m.tag) l in
-      as_kind x.0.kind op x.0 x.1 x.2 s.registers s.bytes
+      let s = sound_turn m.regs (next_of m) op (seen_of m) l in
+      as_settled x.0 op x.1 x.2 s.registers s.bytes
 
   as_gated : {x : Stepped × List ℕ} → AsBefore m l x → AsBefore m l (gated_of m l x)
   unfolding gated_of

@@ -1,12 +1,10 @@
 -- What every step keeps: GE within four bits in all seven records.
-use Rattle.std.specs.Prelude.{◌≡◌, refl, false, List, [], ◌∷◌, ℕ, ◌≤◌, get_or, drop}
-use Rattle.bits.specs.Cases.{when◌then◌else◌, if_both}
+use Rattle.std.specs.Prelude.{◌≡◌, refl, false, Option, Some, None, Result, List, [], ◌∷◌, ℕ, ◌≤◌, get_or, drop}
+use Rattle.bits.specs.Cases.{if_both}
 use Rattle.memory.specs.Bytes.{word_at}
-use Rattle.memory.specs.declared.Found.{Found}
-use Rattle.memory.specs.declared.Found.TheVariants.{Inside, Outside}
 use Rattle.cpu.specs.declared.Machine.{Machine}
-use Rattle.cpu.specs.declared.Kind.{Kind}
-use Rattle.cpu.specs.declared.Kind.TheVariants as kind
+use Rattle.cpu.specs.declared.Answer.{Answer}
+use Rattle.cpu.specs.declared.Outcome.TheVariants as outcome
 use Rattle.cpu.specs.declared.Outcome.{Outcome}
 use Rattle.cpu.specs.Answers.{bad_of}
 use Rattle.cpu.specs.With.{with_regs}
@@ -14,7 +12,7 @@ use Rattle.banks.specs.Banks.{with_user_reg}
 use Rattle.block.specs.declared.Plan.{Plan}
 use Rattle.block.specs.Block.{put_each}
 use Rattle.block.specs.UserBlock.{user_store_of, user_load_of, return_load_of, user_moved_of, user_guarded_of, user_block_of}
-use Rattle.arm.specs.Turn.{seen}
+use Rattle.arm.specs.Turn.{seen_of}
 use Rattle.arm.specs.Laws.Sound.{sound_turn}
 use Rattle.engine.specs.declared.Stepped.{Stepped}
 use Rattle.engine.specs.Step.{settled_of, blocked_of, next_of, turned_of, executed_of, taken_of, given_of, gated_of, step_of, step_with_of}
@@ -38,30 +36,30 @@ user_moved_fit p m op l f =
     (if_both AllFit _ (each_fit _ _ _ (regs_fit m _ f)) (regs_fit _ _ (each_fit _ _ _ (regs_fit m _ f)))))
     (regs_fit m _ f)
 
-user_guarded_fit : (found : Found) (at : ℕ) (m : Machine) (l : List ℕ) (done : Machine × List ℕ) → AllFit m → FitsAfter done
-    → AllFit (blocked_of at (user_guarded_of found m l done)).0.machine
-unfolding blocked_of user_guarded_of when◌then◌else◌
-user_guarded_fit Inside at m l done f g = g
-user_guarded_fit (Outside address) at m l done f g = regs_fit m _ f
+user_guarded_fit : (f : Option ℕ) (m : Machine) (at : ℕ) (l : List ℕ) (done : Machine × List ℕ) → AllFit m → FitsAfter done
+    → (let x : Result Machine Answer × List ℕ = user_guarded_of f l done in AllFit (blocked_of m at x.0 x.1).0.machine)
+unfolding blocked_of user_guarded_of
+user_guarded_fit None m at l done f g = g
+user_guarded_fit (Some address) m at l done f g = regs_fit m _ f
 
-user_fit : (at : ℕ) (m : Machine) (op : ℕ) (l : List ℕ) → AllFit m → AllFit (blocked_of at (user_block_of m op l)).0.machine
+user_fit : (at : ℕ) (m : Machine) (op : ℕ) (l : List ℕ) → AllFit m → AllFit (blocked_of m at (user_block_of m op l).0 (user_block_of m op l).1).0.machine
 unfolding user_block_of
-user_fit at m op l f = user_guarded_fit _ at m l _ f (user_moved_fit _ m op l f)
+user_fit at m op l f = user_guarded_fit _ m at l _ f (user_moved_fit _ m op l f)
 
-settled_fit : (k : Kind) (m : Machine) (at op : ℕ) (o : Outcome) (l : List ℕ) → AllFit m → (k ≡ kind.Lanes → o.ge ≤ 15) → AllFit (settled_of k m at op o l).0.machine
+settled_fit : (o : Outcome) (m : Machine) (at op : ℕ) (l : List ℕ) → AllFit m → ((ge : ℕ) → o ≡ outcome.Lanes ge → ge ≤ 15) → AllFit (settled_of o m at op l).0.machine
 unfolding settled_of
-settled_fit kind.Nothing m at op o l f h = f
-settled_fit kind.Flags m at op o l f h = current_fit m _ f f.current
-settled_fit kind.Sticky m at op o l f h = current_fit m _ f f.current
-settled_fit kind.Lanes m at op o l f h = current_fit m _ f (h refl)
-settled_fit kind.Exchange m at op o l f h = current_fit m _ f f.current
-settled_fit kind.Tagged m at op o l f h = record { current = f.current; saved = f.saved; banked = f.banked }
-settled_fit kind.Untagged m at op o l f h = record { current = f.current; saved = f.saved; banked = f.banked }
-settled_fit kind.Return m at op o l f h = returned_fit m o.at f
-settled_fit kind.Moves m at op o l f h = moves_fit m op f
-settled_fit kind.Block m at op o l f h = user_fit at m op l f
-settled_fit kind.Call m at op o l f h = f
-settled_fit kind.Stop m at op o l f h = regs_fit m _ f
+settled_fit outcome.Nothing m at op l f h = f
+settled_fit (outcome.Flags n z c v) m at op l f h = current_fit m _ f f.current
+settled_fit outcome.Sticky m at op l f h = current_fit m _ f f.current
+settled_fit (outcome.Lanes ge) m at op l f h = current_fit m _ f (h ge refl)
+settled_fit (outcome.Exchange t) m at op l f h = current_fit m _ f f.current
+settled_fit (outcome.Tagged a) m at op l f h = record { current = f.current; saved = f.saved; banked = f.banked }
+settled_fit outcome.Untagged m at op l f h = record { current = f.current; saved = f.saved; banked = f.banked }
+settled_fit (outcome.Return to) m at op l f h = returned_fit m to f
+settled_fit outcome.Moves m at op l f h = moves_fit m op f
+settled_fit outcome.Block m at op l f h = user_fit at m op l f
+settled_fit (outcome.Call number) m at op l f h = f
+settled_fit (outcome.Stop answer) m at op l f h = regs_fit m _ f
 
 module _ (m : Machine) (l : List ℕ) where
   abbrev StepFits : Stepped × List ℕ → Type 0
@@ -71,8 +69,8 @@ module _ (m : Machine) (l : List ℕ) where
   unfolding executed_of
   executed_fit op f =
       let x = turned_of m op l in
-      let s = sound_turn m.regs (next_of m) op m.cpsr.n m.cpsr.z (seen m.cpsr.c m.cpsr.v m.cpsr.ge m.tag) l in
-      settled_fit x.0.kind (with_regs m x.1) (next_of m) op x.0 x.2 (regs_fit m x.1 f) s.ge_fits
+      let s = sound_turn m.regs (next_of m) op (seen_of m) l in
+      settled_fit x.0 (with_regs m x.1) (next_of m) op x.2 (regs_fit m x.1 f) s.ge_fits
 
   gated_fit : (x : Stepped × List ℕ) → AllFit m → StepFits x → StepFits (gated_of m l x)
   unfolding gated_of

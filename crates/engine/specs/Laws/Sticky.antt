@@ -1,16 +1,14 @@
 -- Q is cleared by nothing but MSR and a restored status.
-use Rattle.std.specs.Prelude.{◌≡◌, refl, Bool, true, false, not, ◌&&◌, List, [], ◌∷◌, ℕ, get_or, drop, ◌==◌}
+use Rattle.std.specs.Prelude.{◌≡◌, refl, Bool, true, false, Option, Some, None, Result, not, ◌&&◌, List, [], ◌∷◌, ℕ, get_or, drop, ◌==◌}
 use Rattle.std.proofs.Common.{sym}
 use Rattle.std.proofs.lemmas.Bool.{false≢true}
 use Rattle.bits.specs.Cases.{when◌then◌else◌, if_both}
 use Rattle.bits.specs.Fields.{◌⟨◌⟩, ◌⟨◌‥◌⟩}
-use Rattle.memory.specs.declared.Found.{Found}
-use Rattle.memory.specs.declared.Found.TheVariants.{Inside, Outside}
 use Rattle.psr.specs.declared.Status.{Status}
 use Rattle.psr.specs.declared.Mode.{Mode}
 use Rattle.cpu.specs.declared.Machine.{Machine}
-use Rattle.cpu.specs.declared.Kind.{Kind}
-use Rattle.cpu.specs.declared.Kind.TheVariants as kind
+use Rattle.cpu.specs.declared.Answer.{Answer}
+use Rattle.cpu.specs.declared.Outcome.TheVariants as outcome
 use Rattle.cpu.specs.declared.Outcome.{Outcome}
 use Rattle.banks.specs.Banks.{entered_of, switched_of, branched_to, exchanged_to, with_user_reg}
 use Rattle.moves.specs.Moves.{mrs_of, msr_of, cps_status_of, cps_of, moves_of}
@@ -28,19 +26,19 @@ abbrev pub is_return_load : ℕ → Bool
 is_return_load op = op ⟨ 20 ⟩ && op ⟨ 15 ⟩
 
 -- what may clear Q: S into r15, MSR, LDM (3)
-abbrev pub may_clear : Kind → ℕ → Bool
-may_clear kind.Nothing op = false
-may_clear kind.Flags op = false
-may_clear kind.Sticky op = false
-may_clear kind.Lanes op = false
-may_clear kind.Exchange op = false
-may_clear kind.Tagged op = false
-may_clear kind.Untagged op = false
-may_clear kind.Return op = true
-may_clear kind.Moves op = is_msr op
-may_clear kind.Block op = is_return_load op
-may_clear kind.Call op = false
-may_clear kind.Stop op = false
+abbrev pub may_clear : Outcome → ℕ → Bool
+may_clear outcome.Nothing op = false
+may_clear (outcome.Flags n z c v) op = false
+may_clear outcome.Sticky op = false
+may_clear (outcome.Lanes ge) op = false
+may_clear (outcome.Exchange t) op = false
+may_clear (outcome.Tagged a) op = false
+may_clear outcome.Untagged op = false
+may_clear (outcome.Return to) op = true
+may_clear outcome.Moves op = is_msr op
+may_clear outcome.Block op = is_return_load op
+may_clear (outcome.Call number) op = false
+may_clear (outcome.Stop answer) op = false
 
 abbrev Set : Machine → Type 0
 Set m = m.cpsr.q ≡ true
@@ -85,27 +83,29 @@ unfolding user_moved_of user_load_of user_store_of
 user_moved_set p m op l e q =
     by_load (op ⟨ 20 ⟩) (op ⟨ 15 ⟩) (return_load_of p m op l, l) _ _ e (if_both Set _ (each_set _ _ _ q) (each_set _ _ _ q)) q
 
-guarded_set : (f : Found) (at : ℕ) (m : Machine) (l : List ℕ) (done : Machine × List ℕ) → Set m → Set done.0 → Set (blocked_of at (user_guarded_of f m l done)).0.machine
-unfolding blocked_of user_guarded_of when◌then◌else◌
-guarded_set Inside at m l done q p = p
-guarded_set (Outside address) at m l done q p = q
+guarded_set : (f : Option ℕ) (m : Machine) (at : ℕ) (l : List ℕ) (done : Machine × List ℕ) → Set m → Set done.0
+    → (let x : Result Machine Answer × List ℕ = user_guarded_of f l done in Set (blocked_of m at x.0 x.1).0.machine)
+unfolding blocked_of user_guarded_of
+guarded_set None m at l done q p = p
+guarded_set (Some address) m at l done q p = q
 
-user_set : (at : ℕ) (m : Machine) (op : ℕ) (l : List ℕ) → is_return_load op ≡ false → Set m → Set (blocked_of at (user_block_of m op l)).0.machine
+user_set : (at : ℕ) (m : Machine) (op : ℕ) (l : List ℕ) → is_return_load op ≡ false → Set m
+    → Set (blocked_of m at (user_block_of m op l).0 (user_block_of m op l).1).0.machine
 unfolding user_block_of
-user_set at m op l e q = guarded_set _ at m l _ q (user_moved_set _ m op l e q)
+user_set at m op l e q = guarded_set _ m at l _ q (user_moved_set _ m op l e q)
 
 -- a Q that is set stays set
-pub q_kept : (k : Kind) (m : Machine) (at op : ℕ) (o : Outcome) (l : List ℕ) → may_clear k op ≡ false → Set m → Set (settled_of k m at op o l).0.machine
+pub q_kept : (o : Outcome) (m : Machine) (at op : ℕ) (l : List ℕ) → may_clear o op ≡ false → Set m → Set (settled_of o m at op l).0.machine
 unfolding settled_of
-q_kept kind.Nothing m at op o l e q = q
-q_kept kind.Flags m at op o l e q = q
-q_kept kind.Sticky m at op o l e q = refl
-q_kept kind.Lanes m at op o l e q = q
-q_kept kind.Exchange m at op o l e q = q
-q_kept kind.Tagged m at op o l e q = q
-q_kept kind.Untagged m at op o l e q = q
-q_kept kind.Return m at op o l e q = absurd (false≢true (sym e))
-q_kept kind.Moves m at op o l e q = moves_set m op e q
-q_kept kind.Block m at op o l e q = user_set at m op l e q
-q_kept kind.Call m at op o l e q = q
-q_kept kind.Stop m at op o l e q = q
+q_kept outcome.Nothing m at op l e q = q
+q_kept (outcome.Flags n z c v) m at op l e q = q
+q_kept outcome.Sticky m at op l e q = refl
+q_kept (outcome.Lanes ge) m at op l e q = q
+q_kept (outcome.Exchange t) m at op l e q = q
+q_kept (outcome.Tagged a) m at op l e q = q
+q_kept outcome.Untagged m at op l e q = q
+q_kept (outcome.Return to) m at op l e q = absurd (false≢true (sym e))
+q_kept outcome.Moves m at op l e q = moves_set m op e q
+q_kept outcome.Block m at op l e q = user_set at m op l e q
+q_kept (outcome.Call number) m at op l e q = q
+q_kept (outcome.Stop answer) m at op l e q = q
