@@ -42,7 +42,6 @@ fn read_status(bytes: &[u8; 216], i: u32) -> Status
     s
 }
 
-#[tactic(auto, unfolding(crate::specs::State::state_of))]
 fn read_saved(bytes: &[u8; 216]) -> [Status; 5]
     ensures { result ≡ (state_of bytes.now).saved }
 {
@@ -106,6 +105,18 @@ fn records(m: Machine) -> [Status; 7]
     [m.cpsr, m.spsr, fiq, irq, supervisor, abort, undefined]
 }
 
+fn pack_words(m: Machine) -> [u32; 7]
+    ensures { result ≡ map packed_word_of (records_of m) }
+{
+    records(m).map(pack_word)
+}
+
+fn ge_words(m: Machine) -> [u32; 7]
+    ensures { result ≡ map ge_number_of (records_of m) }
+{
+    records(m).map(ge_word)
+}
+
 fn tag_words(tag: Tag) -> [u32; 2]
     ensures { result ≡ tag_words_of tag }
 {
@@ -121,8 +132,8 @@ fn write_front(bytes: &mut [u8; 216], m: Machine)
     ensures { bytes.new ≡ front_placed bytes.old m }
 {
     write_words(bytes, 0, &m.regs);
-    write_words(bytes, 16, &records(m).map(pack_word));
-    write_words(bytes, 23, &records(m).map(ge_word));
+    write_words(bytes, 16, &pack_words(m));
+    write_words(bytes, 23, &ge_words(m));
 }
 
 // Words 30 to 53: the banked words and the tag.

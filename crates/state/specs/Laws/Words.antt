@@ -36,17 +36,26 @@ sets_join : (l : List ℕ) (i j : ℕ) (xs ys : List ℕ) → i + length xs ≡ 
 sets_join l i j [] ys h = let e : j ≡ i = omega arith in rw e
 sets_join l i j (x ∷ xs) ys h = sets_join (set l i x) (suc i) j xs ys (omega arith)
 
--- words read by one call each
-module _ {F : Type 0} (g : Mut F (ℕ × Unit {0}) ℕ) (f : F) (l : List ℕ) (from : ℕ) (reads : (q : F) (i r : ℕ) → Called g f (i, tt) r q → (q ≡ f) × (r ≡ word l (from + i))) where
-  calls_from : (ws : List ℕ) (n i k : ℕ) (p : F) → p ≡ f → i + n ≡ length ws → from + i ≡ k → IsFromFnResultFrom g p ws i n → drop i ws ≡ words_from l k n
-  unfolding words_from
-  calls_from ws zero i k p s e m h = drop_of_length-le ws (omega arith)
-  calls_from ws (suc n) i k p s e m (q, w, at, call, rest) =
-      let o = reads q i w (rw s at call) in
-      rw (← m, drop_more ws i 0 (omega arith), at.1 0, o.1, calls_from ws n (i + 1) (from + i + 1) q o.0 (omega arith) (omega arith) rest)
+-- the values of a function at n numbers from i on
+abbrev pub values_from : {B : Type 0} → (ℕ → B) → ℕ → ℕ → List B
+values_from v i zero = []
+values_from v i (suc n) = v i ∷ values_from v (i + 1) n
 
-  pub words_called : (ws : List ℕ) (n : ℕ) → IsFromFnResult g f ws n → ws ≡ words_from l from n
-  words_called ws n h = calls_from ws n 0 from f refl (omega (arith, h.long)) (omega arith) h.each
+-- calls that each give such a value
+module _ {F B : Type 0} (g : Mut F (ℕ × Unit {0}) B) (f : F) (v : ℕ → B) (from : ℕ) (gives : (q : F) (i : ℕ) (r : B) → Called g f (i, tt) r q → (q ≡ f) × (r ≡ v (from + i))) where
+  calls_from : (xs : List B) (n i k : ℕ) (p : F) → p ≡ f → i + n ≡ length xs → from + i ≡ k → IsFromFnResultFrom g p xs i n → drop i xs ≡ values_from v k n
+  calls_from xs zero i k p s e m h = drop_of_length-le xs (omega arith)
+  calls_from xs (suc n) i k p s e m (q, x, at, call, rest) =
+      let o = gives q i x (rw s at call) in
+      rw (← m, drop_more xs i x (omega arith), at.1 x, o.1, calls_from xs n (i + 1) (from + i + 1) q o.0 (omega arith) (omega arith) rest)
+
+  pub values_called : (xs : List B) (n : ℕ) → IsFromFnResult g f xs n → xs ≡ values_from v from n
+  values_called xs n h = calls_from xs n 0 from f refl (omega (arith, h.long)) (omega arith) h.each
+
+pub words_are : (l : List ℕ) (i n : ℕ) → values_from (word l) i n ≡ words_from l i n
+unfolding words_from
+words_are l i zero = refl
+words_are l i (suc n) = rw (words_are l (i + 1) n)
 
 -- words placed from word i on
 unfoldable pub placed : List ℕ → ℕ → List ℕ → List ℕ
