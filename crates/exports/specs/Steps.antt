@@ -1,7 +1,5 @@
 -- What the exported steps and runs leave in the bytes lent: the machine's, memory's, the answer's.
-use denote.Ref.{MutBor}
-use Rattle.std.specs.Fn.{Once}
-use Rattle.std.specs.Prelude.{◌≡◌, Bool, ◌&&◌, ◌||◌, List, ℕ, length, ◌==◌}
+use Rattle.std.specs.Prelude.{Bool, ◌&&◌, ◌||◌, List, ℕ, length, ◌==◌}
 use Rattle.bits.specs.Cases.{when◌then◌else◌, ◌<?◌}
 use Rattle.cpu.specs.declared.Machine.{Machine}
 use Rattle.cpu.specs.Answers.{reported, is_done, is_call}
@@ -10,11 +8,6 @@ use Rattle.engine.specs.declared.Stepped.{Stepped}
 use Rattle.engine.specs.declared.Finished.{Finished}
 use Rattle.engine.specs.Step.{step_of, step_with_of}
 use Rattle.engine.specs.Run.{run_of}
-
--- the call of a function at a machine and at memory gives x: the outcome, and the memory left
-abbrev pub Gives : {F : Type 0} → Once F (Machine × (MutBor (List ℕ) × Unit {0})) (Stepped × (MutBor (List ℕ) × Unit {0})) → F → Machine → List ℕ → Stepped × List ℕ → Type 0
-Gives g f m l x =
-    (before after : MutBor (List ℕ)) (s : Stepped) → before.now ≡ l → g.post f (m, (before, tt)) (s, (after, tt)) → (let y : Stepped × List ℕ = (s, after.now) in y) ≡ x
 
 -- a call that changed nothing writes only its answer
 unfoldable pub written_state : Bool → Machine → List ℕ → List ℕ
@@ -46,15 +39,15 @@ abbrev pub measured : ℕ → List ℕ → List ℕ → List ℕ → Left → Le
 measured n bytes l answer called =
     when (length bytes == 216) && (length answer == n) then called else untouched bytes l answer
 
--- the call of a step that leaves x
-unfoldable pub stepped_call_of : List ℕ → List ℕ → List ℕ → Stepped × List ℕ → Left
-stepped_call_of bytes l answer x = measured 12 bytes l answer (beside_memory (left_by_step x.0 bytes) x.1)
-
 unfoldable pub step_call_of : List ℕ → List ℕ → List ℕ → Left
-step_call_of bytes l answer = stepped_call_of bytes l answer (step_of (state_of bytes) l)
+step_call_of bytes l answer =
+    let x : Stepped × List ℕ = step_of (state_of bytes) l in
+    measured 12 bytes l answer (beside_memory (left_by_step x.0 bytes) x.1)
 
 unfoldable pub step_opcode_call_of : List ℕ → List ℕ → ℕ → List ℕ → Left
-step_opcode_call_of bytes l op answer = stepped_call_of bytes l answer (step_with_of (state_of bytes) op l)
+step_opcode_call_of bytes l op answer =
+    let x : Stepped × List ℕ = step_with_of (state_of bytes) op l in
+    measured 12 bytes l answer (beside_memory (left_by_step x.0 bytes) x.1)
 
 unfoldable pub run_call_of : List ℕ → List ℕ → ℕ → List ℕ → Left
 run_call_of bytes l budget answer =

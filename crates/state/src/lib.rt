@@ -74,7 +74,7 @@ pub fn read_state(bytes: &[u8; 216]) -> Machine
     }
 }
 
-// The values as words, from one on.
+// The values as words, from one on. The bytes are a slice, since those of a state and of both answers come here.
 #[tactic(auto, using(crate::specs::Laws::Words::placed_turn, crate::specs::Laws::Words::placed_past))]
 fn write_words(bytes: &mut [u8], from: u32, values: &[u32])
     requires { (4 * (from + length values.now) ≤ length bytes.old) × (length bytes.old ≤ 216) }
