@@ -34,6 +34,7 @@ pub enum Family {
     Preload,
 }
 
+#[tactic(auto, using(bits::specs::Cases::cases), unfolding(crate::specs::Families::multiply_or_swap_of))]
 fn multiply_or_swap(hi: u32) -> Family
     ensures { result ≡ multiply_or_swap_of hi }
 {
@@ -43,45 +44,43 @@ fn multiply_or_swap(hi: u32) -> Family
         } else {
             Family::Swap
         }
-    } else if hi / 2 % 8 < 2 {
-        Family::MultiplyShort
-    } else if hi / 2 % 8 == 3 {
-        Family::Undefined
     } else {
-        Family::MultiplyLong
+        match hi / 2 % 8 {
+            0 | 1 => Family::MultiplyShort,
+            3 => Family::Undefined,
+            _ => Family::MultiplyLong,
+        }
     }
 }
 
+#[tactic(auto, using(bits::specs::Cases::cases), unfolding(crate::specs::Families::miscellaneous_of))]
 fn miscellaneous(hi: u32, lo: u32) -> Family
     ensures { result ≡ miscellaneous_of hi lo }
 {
-    if lo == 0 {
-        Family::StatusMove
-    } else if lo == 1 {
-        if hi / 2 % 4 == 3 {
-            Family::CountZeros
-        } else {
-            Family::BranchExchange
-        }
-    } else if lo == 3 {
-        Family::BranchExchange
-    } else if lo == 5 {
-        Family::Saturating
-    } else if lo == 7 {
-        Family::Breakpoint
-    } else if lo / 8 % 2 == 1 {
-        Family::Halfword
-    } else {
-        Family::Undefined
+    match lo {
+        0 => Family::StatusMove,
+        1 if hi / 2 % 4 == 3 => Family::CountZeros,
+        1 | 3 => Family::BranchExchange,
+        5 => Family::Saturating,
+        7 => Family::Breakpoint,
+        _ if lo / 8 % 2 == 1 => Family::Halfword,
+        _ => Family::Undefined,
     }
 }
 
-// Operations, and in the codes of compares without S the miscellaneous instructions.
+// The codes of compares without S are no operations.
+fn is_hole(hi: u32) -> bool
+    ensures { result ≡ compares_nothing hi }
+{
+    hi / 8 % 4 == 2 && hi % 2 == 0
+}
+
+// Operations, and in the holes the miscellaneous instructions.
+#[tactic(auto, using(bits::specs::Cases::cases))]
 fn operation_space(hi: u32, lo: u32) -> Family
     ensures { result ≡ (when compares_nothing hi then miscellaneous_of hi lo else Family.DataProcessing) }
 {
-    let hole = (hi / 8 % 4 == 2) & !(hi % 2 == 1);
-    if hole {
+    if is_hole(hi) {
         miscellaneous(hi, lo)
     } else {
         Family::DataProcessing
@@ -89,29 +88,26 @@ fn operation_space(hi: u32, lo: u32) -> Family
 }
 
 // Bit 4 comes before bit 7: most operations have it clear.
+#[tactic(auto, using(bits::specs::Cases::cases), unfolding(crate::specs::Families::register_space_of))]
 fn register_space(hi: u32, lo: u32) -> Family
     ensures { result ≡ register_space_of hi lo }
 {
-    if lo % 2 == 1 {
-        if lo / 8 % 2 == 1 {
-            if lo / 2 % 4 == 0 {
-                multiply_or_swap(hi)
-            } else {
-                Family::Extra
-            }
+    if lo % 2 == 1 && lo / 8 % 2 == 1 {
+        if lo / 2 % 4 == 0 {
+            multiply_or_swap(hi)
         } else {
-            operation_space(hi, lo)
+            Family::Extra
         }
     } else {
         operation_space(hi, lo)
     }
 }
 
+#[tactic(auto, using(bits::specs::Cases::cases), unfolding(crate::specs::Families::immediate_space_of))]
 fn immediate_space(hi: u32) -> Family
     ensures { result ≡ immediate_space_of hi }
 {
-    let hole = (hi / 8 % 4 == 2) & !(hi % 2 == 1);
-    if hole {
+    if is_hole(hi) {
         if hi / 2 % 2 == 1 {
             Family::StatusMove
         } else {
@@ -123,63 +119,42 @@ fn immediate_space(hi: u32) -> Family
 }
 
 // The spaces by bits 27-25, and the coprocessor space, bits 27-25 of 111.
+#[tactic(auto, using(bits::specs::Cases::cases), unfolding(crate::specs::Families::conditional_of))]
 fn conditional(hi: u32, lo: u32) -> Family
     ensures { result ≡ conditional_of hi lo }
 {
-    if hi / 32 % 8 == 0 {
-        register_space(hi, lo)
-    } else if hi / 32 % 8 == 1 {
-        immediate_space(hi)
-    } else if hi / 32 % 8 == 2 {
-        Family::Single
-    } else if hi / 32 % 8 == 3 {
-        if lo % 2 == 1 {
-            Family::Media
-        } else {
-            Family::Single
-        }
-    } else if hi / 32 % 8 == 4 {
-        Family::Block
-    } else if hi / 32 % 8 == 5 {
-        Family::Branch
-    } else if hi / 32 % 8 == 6 {
-        Family::Coprocessor
-    } else if hi / 16 % 2 == 1 {
-        Family::Supervisor
-    } else if lo % 2 == 1 {
-        Family::CoprocessorMove
-    } else {
-        Family::Coprocessor
+    match hi / 32 % 8 {
+        0 => register_space(hi, lo),
+        1 => immediate_space(hi),
+        2 => Family::Single,
+        3 if lo % 2 == 1 => Family::Media,
+        3 => Family::Single,
+        4 => Family::Block,
+        5 => Family::Branch,
+        6 => Family::Coprocessor,
+        _ if hi / 16 % 2 == 1 => Family::Supervisor,
+        _ if lo % 2 == 1 => Family::CoprocessorMove,
+        _ => Family::Coprocessor,
     }
 }
 
+#[tactic(auto, using(bits::specs::Cases::cases), unfolding(crate::specs::Families::unconditional_of))]
 fn unconditional(hi: u32, lo: u32) -> Family
     ensures { result ≡ unconditional_of hi lo }
 {
-    let clear = (hi == 0x57) & (lo == 1);
-    if hi / 32 % 8 == 5 {
-        Family::BranchLinkExchange
-    } else if clear {
-        Family::ClearExclusive
-    } else if hi / 32 % 8 == 0 {
-        Family::ChangeState
-    } else if hi / 32 % 8 == 2 {
-        Family::Preload
-    } else if hi / 32 % 8 == 3 {
-        Family::Preload
-    } else if hi / 32 % 8 == 6 {
-        Family::Coprocessor
-    } else if hi / 32 % 8 == 7 {
-        if lo % 2 == 1 {
-            Family::CoprocessorMove
-        } else {
-            Family::Coprocessor
-        }
-    } else {
-        Family::Undefined
+    match hi / 32 % 8 {
+        5 => Family::BranchLinkExchange,
+        _ if hi == 0x57 && lo == 1 => Family::ClearExclusive,
+        0 => Family::ChangeState,
+        2 | 3 => Family::Preload,
+        6 => Family::Coprocessor,
+        7 if lo % 2 == 1 => Family::CoprocessorMove,
+        7 => Family::Coprocessor,
+        _ => Family::Undefined,
     }
 }
 
+#[tactic(auto, using(bits::specs::Cases::cases), unfolding(crate::specs::Families::family_of))]
 pub fn decode(op: u32) -> Family
     ensures { result ≡ family_of op }
 {

@@ -1,13 +1,9 @@
-use Rattle.state.specs.State.{state_of}
+use Rattle.state.specs.State.{record_at, state_of}
+use Rattle.state.specs.Laws.Words.{values_called}
+use Rattle.std.proofs.Common.{rules}
 use Rattle.state.proofs.read_saved.Goals as goal
 
 pub returns : goal.returns
 unfolding state_of
 returns c =
-    rw (
-      c.read_status.ensures,
-      c.read_status-2.ensures,
-      c.read_status-3.ensures,
-      c.read_status-4.ensures,
-      c.read_status-5.ensures,
-    )
+    values_called _ _ (record_at c.args.bytes.now) 18 (λ q i r k. search rules) _ _ c.from_fn.ensures.items

@@ -1,12 +1,13 @@
 -- Words read from bytes and placed into bytes, one turn at a time.
-use Rattle.std.specs.Prelude.{◌≡◌, refl, List, [], ◌∷◌, ◌++◌, ℕ, zero, suc, ◌+◌, ◌-◌, ◌*◌, ◌≤◌, ◌<◌, length, get_or, set, drop}
-use Rattle.std.proofs.Common.{sym, ap, ◌∙◌, append-nil, arith, add-one, length-set, drop_of_length-le, drop-cons}
+use Rattle.std.specs.Prelude.{◌≡◌, refl, List, [], ◌∷◌, ◌++◌, ℕ, zero, suc, ◌+◌, ◌*◌, ◌≤◌, ◌<◌, length, get_or, set, drop}
+use Rattle.std.proofs.Common.{sym, ap, ◌∙◌, append-nil, arith, drop_of_length-le}
+use Rattle.std.specs.Fn.{Mut, Called}
+use Rattle.std.specs.Array.{IsFromFnResult, IsFromFnResultFrom}
+use Rattle.std.proofs.lemmas.List.{drop_more}
 use Rattle.std.proofs.lemmas.List.Edits.{sets, sets-eq}
 use Rattle.std.proofs.Math.Seq.{drop-length}
 use Rattle.bits.specs.Words.{lanes_of}
-use Rattle.bits.specs.Laws.Order.{left_next}
 use Rattle.memory.specs.Bytes.{put_word}
-use Rattle.memory.specs.Laws.Bytes.{length_word}
 use Rattle.state.specs.State.{word, words_from, bytes_of}
 
 pub length_from : (l : List ℕ) (i n : ℕ) → length (words_from l i n) ≡ n
@@ -35,46 +36,26 @@ sets_join : (l : List ℕ) (i j : ℕ) (xs ys : List ℕ) → i + length xs ≡ 
 sets_join l i j [] ys h = let e : j ≡ i = omega arith in rw e
 sets_join l i j (x ∷ xs) ys h = sets_join (set l i x) (suc i) j xs ys (omega arith)
 
-from_next : (l : List ℕ) (i n : ℕ) → 0 < n → words_from l i n ≡ word l i ∷ words_from l (i + 1) (n - 1)
+-- the values of a function at n numbers from i on
+abbrev pub values_from : {B : Type 0} → (ℕ → B) → ℕ → ℕ → List B
+values_from v i zero = []
+values_from v i (suc n) = v i ∷ values_from v (i + 1) n
+
+-- calls that each give such a value
+module _ {F B : Type 0} (g : Mut F (ℕ × Unit {0}) B) (f : F) (v : ℕ → B) (from : ℕ) (gives : (q : F) (i : ℕ) (r : B) → Called g f (i, tt) r q → (q ≡ f) × (r ≡ v (from + i))) where
+  calls_from : (xs : List B) (n i k : ℕ) (p : F) → p ≡ f → i + n ≡ length xs → from + i ≡ k → IsFromFnResultFrom g p xs i n → drop i xs ≡ values_from v k n
+  calls_from xs zero i k p s e m h = drop_of_length-le xs (omega arith)
+  calls_from xs (suc n) i k p s e m (q, x, at, call, rest) =
+      let o = gives q i x (rw s at call) in
+      rw (← m, drop_more xs i x (omega arith), at.1 x, o.1, calls_from xs n (i + 1) (from + i + 1) q o.0 (omega arith) (omega arith) rest)
+
+  pub values_called : (xs : List B) (n : ℕ) → IsFromFnResult g f xs n → xs ≡ values_from v from n
+  values_called xs n h = calls_from xs n 0 from f refl (omega (arith, h.long)) (omega arith) h.each
+
+pub words_are : (l : List ℕ) (i n : ℕ) → values_from (word l) i n ≡ words_from l i n
 unfolding words_from
-from_next l i zero h = absurd (omega arith)
-from_next l i (suc n) h = let e : suc n - 1 ≡ n = omega arith in rw e
-
-from_end : (l : List ℕ) (i n : ℕ) → n ≤ 0 → words_from l i n ≡ []
-unfolding words_from
-from_end l i zero h = refl
-from_end l i (suc n) h = absurd (omega arith)
-
--- A read under way: i values are in their places, the others will come from word k on.
-pub record Reading (l : List ℕ) (from : ℕ) (before values : List ℕ) (i k : ℕ) : Type 0 where
-  pub place : k ≡ from + i
-  pub kept : length values ≡ length before
-  pub whole : sets values i (words_from l k (length before - i)) ≡ words_from l from (length before)
-
-pub reading_first : (l : List ℕ) (from : ℕ) (values : List ℕ) → Reading l from values values 0 from
-reading_first l from values =
-    let e : length values - 0 ≡ length values = omega arith in
-    record {
-      place = omega arith;
-      kept = refl;
-      whole = rw e (sets_all values (words_from l from (length values)) (sym (length_from l from (length values))));
-    }
-
-module _ {l : List ℕ} {from : ℕ} {before values : List ℕ} {i k : ℕ} (s : Reading l from before values i k) where
-  pub reading_next : i < length values → Reading l from before (set values i (word l k)) (i + 1) (k + 1)
-  reading_next h =
-      let n : length values ≡ length before = s.kept in
-      record {
-        place = omega (arith, s.place);
-        kept = length-set values i (word l k) ∙ n;
-        whole = sym (rw (from_next l k (length before - i) (omega arith), left_next (length before) i, add-one i)) ∙ s.whole;
-      }
-
-  pub reading_last : length values ≤ i → values ≡ words_from l from (length before)
-  reading_last h =
-      let n : length values ≡ length before = s.kept in
-      let z : length before - i ≤ 0 = omega arith in
-      rw (from_end l k (length before - i) z) at s.whole
+words_are l i zero = refl
+words_are l i (suc n) = rw (words_are l (i + 1) n)
 
 -- words placed from word i on
 unfoldable pub placed : List ℕ → ℕ → List ℕ → List ℕ
@@ -102,24 +83,14 @@ placed_next : (l : List ℕ) (k v : ℕ) (ws : List ℕ) → placed l k (v ∷ w
 unfolding placed bytes_of
 placed_next l k v ws = sym (rw (put_sets l (4 * k) v) (sets_join l (4 * k) (4 * (k + 1)) (lanes_of v) (bytes_of ws) (omega arith)))
 
--- A write under way: i values are in their places, the others will go from word k on.
-pub record Writing (before : List ℕ) (from : ℕ) (values l : List ℕ) (i k : ℕ) : Type 0 where
-  pub place : k ≡ from + i
-  pub kept : length l ≡ length before
-  pub whole : placed l k (drop i values) ≡ placed before from values
+-- of words that go to their places in turn, word i and those behind it
+pub placed_turn : (l : List ℕ) (from i : ℕ) (ws : List ℕ) → i < length ws
+    → placed (put_word l (4 * (from + i)) (get_or ws i 0)) (from + (i + 1)) (drop (i + 1) ws) ≡ placed l (from + i) (drop i ws)
+placed_turn l from i ws h =
+    let e : from + (i + 1) ≡ from + i + 1 = omega arith in
+    rw (e, drop_more ws i 0 h) (sym (placed_next l (from + i) (get_or ws i 0) (drop (i + 1) ws)))
 
-pub writing_first : (l : List ℕ) (from : ℕ) (values : List ℕ) → Writing l from values l 0 from
-writing_first l from values = record { place = omega arith; kept = refl; whole = refl }
-
-module _ {before : List ℕ} {from : ℕ} {values l : List ℕ} {i k : ℕ} (s : Writing before from values l i k) where
-  pub writing_next : i < length values → Writing before from values (put_word l (4 * k) (get_or values i 0)) (i + 1) (k + 1)
-  writing_next h =
-      record {
-        place = omega (arith, s.place);
-        kept = length_word l (4 * k) (get_or values i 0) ∙ s.kept;
-        whole = rw (add-one i) (sym (placed_next l k (get_or values i 0) (drop (suc i) values)) ∙ sym (rw (drop-cons values i 0 h))) ∙ s.whole;
-      }
-
-  pub writing_last : length values ≤ i → l ≡ placed before from values
-  unfolding placed bytes_of
-  writing_last h = rw (drop_of_length-le values h) at s.whole
+-- and past the last of them
+pub placed_past : (l : List ℕ) (k i : ℕ) (ws : List ℕ) → length ws ≤ i → placed l k (drop i ws) ≡ l
+unfolding placed bytes_of
+placed_past l k i ws h = rw (drop_of_length-le ws h)

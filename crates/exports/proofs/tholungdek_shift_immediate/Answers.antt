@@ -1,7 +1,0 @@
-use Rattle.exports.specs.Calls.{shift_immediate_call_of}
-use Rattle.exports.proofs.tholungdek_shift_immediate.Goals as goal
-
-pub returns : goal.returns
-unfolding shift_immediate_call_of
-returns c =
-    rw (c.join_halves.ensures, c.bit_of.ensures.0, c.shift_by_immediate-o.ensures)

@@ -1,2 +1,0 @@
--- Laws that proofs cite; nothing here has to be believed.
-pub mod Measured
