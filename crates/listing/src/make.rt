@@ -1,6 +1,8 @@
 // The state and the memory that a seed stands for; bench/src/record/made.rs makes the same.
 ghost use Rattle.std.specs.Prelude.{◌≤◌};
 
+use crate::scene::Scene;
+
 // xorshift32
 fn next(x: u32) -> u32 {
     let a = x ^ (x << 13);
@@ -8,33 +10,33 @@ fn next(x: u32) -> u32 {
     b ^ (b << 5)
 }
 
+static EDGES: [u32; 16] = [
+    0,
+    1,
+    2,
+    0x1F,
+    0x7F,
+    0x80,
+    0xFF,
+    0x7FFF,
+    0x8000,
+    0xFFFF,
+    0x7FFF_FFFF,
+    0x8000_0000,
+    0x8000_0001,
+    0x8000_8000,
+    0x7FFF_7FFF,
+    0xFFFF_FFFF,
+];
+
+static MODES: [u32; 7] = [0x10, 0x11, 0x12, 0x13, 0x17, 0x1B, 0x1F];
+
 fn edge(i: u32) -> u32 {
-    let edges = [
-        0,
-        1,
-        2,
-        0x1F,
-        0x7F,
-        0x80,
-        0xFF,
-        0x7FFF,
-        0x8000,
-        0xFFFF,
-        0x7FFF_FFFF,
-        0x8000_0000,
-        0x8000_0001,
-        0x8000_8000,
-        0x7FFF_7FFF,
-        0xFFFF_FFFF,
-    ];
-    let k = (i % 16) as usize;
-    edges[k]
+    EDGES[(i % 16) as usize]
 }
 
 fn mode(i: u32) -> u32 {
-    let modes = [0x10, 0x11, 0x12, 0x13, 0x17, 0x1B, 0x1F];
-    let k = (i % 7) as usize;
-    modes[k]
+    MODES[(i % 7) as usize]
 }
 
 // Any word, an edge, a small number, or an address in or just past the memory.
@@ -82,53 +84,45 @@ fn make_words(seed: u32, len: u32, state: &mut [u8; 216]) -> u32
     requires { len ≤ 65537 }
 {
     let mut x = seed;
-    let mut i: u32 = 0;
-    while i < 54 {
+    for i in 0u32..54 {
         let kind = next(x);
         let any = next(kind);
         memory::write32(state, 4 * i, word(i, kind, any, len));
         x = any;
-        i += 1;
     }
     x
 }
 
 fn make_bytes(seed: u32, memory: &mut [u8]) {
     let mut x = seed;
-    let mut i = 0;
-    while i < memory.len() {
+    for byte in memory.iter_mut() {
         x = next(x);
-        memory[i] = (x / 65536 % 256) as u8;
-        i += 1;
+        *byte = (x / 65536 % 256) as u8;
     }
 }
 
 // System mode in all records, all other words 0.
 fn plain_words(state: &mut [u8; 216]) {
-    let mut i: u32 = 16;
-    while i < 23 {
+    for i in 16u32..23 {
         memory::write32(state, 4 * i, 0x1F);
-        i += 1;
     }
 }
 
 // Each byte is the low byte of its address.
 fn number_bytes(memory: &mut [u8]) {
-    let mut i = 0;
-    while i < memory.len() {
-        memory[i] = (i % 256) as u8;
-        i += 1;
+    for (at, byte) in memory.iter_mut().enumerate() {
+        *byte = (at % 256) as u8;
     }
 }
 
 // Into a state of zeros. Seed 0 is the plain state and numbered bytes.
-pub fn fill(seed: u32, len: u32, state: &mut [u8; 216], memory: &mut [u8])
+pub fn fill(seed: u32, len: u32, scene: &mut Scene)
     requires { len ≤ 65537 }
 {
     if seed == 0 {
-        plain_words(state);
-        number_bytes(memory);
+        plain_words(&mut scene.state);
+        number_bytes(scene.memory);
     } else {
-        make_bytes(make_words(seed, len, state), memory);
+        make_bytes(make_words(seed, len, &mut scene.state), scene.memory);
     }
 }

@@ -1,7 +1,6 @@
 // Runs the image on standard input and prints what came of it (document 01, section 8).
 #![tactic(auto)]
 
-mod input;
 mod page;
 mod print;
 mod text;
