@@ -11,6 +11,7 @@ pub fn load<R: Read>(reader: &mut R, room: &mut [u8]) -> io::Result<usize>
     ensures ok { IfOk result (λ count. (count ≤ length room.new) × (count ≡ length (take count room.new))) }
     ensures room { length room.new ≡ length room.old }
 {
+    // no `for` over the room: a read may give less than there is room for
     let mut n = 0;
     while n < room.len() {
         let more = reader.read(&mut room[n..])?;

@@ -82,7 +82,7 @@ pub fn judge_state(found: &[u8; 216], listed: &[u8; 216]) -> Result<(), Differen
     }
 }
 
-// A byte of a memory; 0 where it has ended.
+// A byte of a memory; past its end 0 is shown.
 fn byte_at(bytes: &[u8], at: usize) -> u32 {
     bytes.get(at).map_or(0, |byte| *byte as u32)
 }

@@ -1,5 +1,5 @@
 // The state and the memory that a seed stands for; bench/src/record/made.rs makes the same.
-ghost use Rattle.std.specs.Prelude.{◌≤◌};
+ghost use Rattle.std.specs.Prelude.{◌≡◌, ◌<◌, ◌≤◌, MatchOption};
 
 use crate::scene::Scene;
 
@@ -8,6 +8,30 @@ fn next(x: u32) -> u32 {
     let a = x ^ (x << 13);
     let b = a ^ (a >> 17);
     b ^ (b << 5)
+}
+
+// How long a memory is; one byte more than the core takes may be listed.
+#[derive(Clone, Copy)]
+pub struct Length {
+    pub value: u32,
+    ghost fits: { value ≤ 65537 },
+}
+
+impl Length {
+    pub fn new(value: u32) -> Option<Self>
+        ensures { MatchOption result (65537 < value) (λ length. length.value ≡ value) }
+    {
+        if value <= 65537 {
+            Some(Length { value })
+        } else {
+            None
+        }
+    }
+
+    // Addresses in the memory and just past it.
+    fn address(self, any: u32) -> u32 {
+        any % (self.value + 8)
+    }
 }
 
 static EDGES: [u32; 16] = [
@@ -40,14 +64,12 @@ fn mode(i: u32) -> u32 {
 }
 
 // Any word, an edge, a small number, or an address in or just past the memory.
-fn value(kind: u32, any: u32, len: u32) -> u32
-    requires { len ≤ 65537 }
-{
+fn value(kind: u32, any: u32, length: Length) -> u32 {
     match kind % 8 {
         0 | 1 | 2 | 3 => any,
         4 | 5 => edge(any),
         6 => any % 64,
-        _ => any % (len + 8),
+        _ => length.address(any),
     }
 }
 
@@ -66,28 +88,24 @@ fn aligned(x: u32) -> u32 {
 }
 
 // Word i of a state, of two random words.
-fn word(i: u32, kind: u32, any: u32, len: u32) -> u32
-    requires { len ≤ 65537 }
-{
+fn word(i: u32, kind: u32, any: u32, length: Length) -> u32 {
     match i {
-        15 => aligned(any % (len + 8)),
+        15 => aligned(length.address(any)),
         16 => current(kind, any),
         17 | 18 | 19 | 20 | 21 | 22 => status(kind, any),
         23 | 24 | 25 | 26 | 27 | 28 | 29 => any % 16,
         52 => any % 2,
-        _ => value(kind, any, len),
+        _ => value(kind, any, length),
     }
 }
 
 // Words 0 to 53, and the generator to go on with.
-fn make_words(seed: u32, len: u32, state: &mut [u8; 216]) -> u32
-    requires { len ≤ 65537 }
-{
+fn make_words(seed: u32, length: Length, state: &mut [u8; 216]) -> u32 {
     let mut x = seed;
     for i in 0u32..54 {
         let kind = next(x);
         let any = next(kind);
-        memory::write32(state, 4 * i, word(i, kind, any, len));
+        memory::write32(state, 4 * i, word(i, kind, any, length));
         x = any;
     }
     x
@@ -116,13 +134,11 @@ fn number_bytes(memory: &mut [u8]) {
 }
 
 // Into a state of zeros. Seed 0 is the plain state and numbered bytes.
-pub fn fill(seed: u32, len: u32, scene: &mut Scene)
-    requires { len ≤ 65537 }
-{
+pub fn fill(seed: u32, length: Length, scene: &mut Scene) {
     if seed == 0 {
         plain_words(&mut scene.state);
         number_bytes(scene.memory);
     } else {
-        make_bytes(make_words(seed, len, &mut scene.state), scene.memory);
+        make_bytes(make_words(seed, length, &mut scene.state), scene.memory);
     }
 }

@@ -1,9 +1,8 @@
 // One line of the list, replayed.
-ghost use Rattle.std.specs.Prelude.{◌≤◌};
-
 use cpu::{Machine, Report};
 use engine::{Finished, Stepped};
 use listing::judge::Difference;
+use listing::make::Length;
 use listing::scene::Scene;
 use listing::text::Cursor;
 use listing::{items, judge, make};
@@ -17,13 +16,12 @@ enum Call {
 }
 
 // What a line says first: the call with the number given to it, and what the machine is made of.
-#[derive(Drop)]
+#[derive(Clone, Copy)]
 struct Head {
     call: Call,
     seed: u32,
-    len: u32,
+    length: Length,
     given: u32,
-    ghost fits: { len ≤ 65537 },
 }
 
 // What a line says last: the answer with its values, and the count of a run.
@@ -48,15 +46,12 @@ fn read_head(line: &mut Cursor) -> Option<Head> {
     let call = call_of(*line.rest.first()?)?;
     line.skip_to(b' ')?;
     let seed = line.field()?;
-    let len = line.field()?;
+    let length = Length::new(line.field()?)?;
     let given = line.field()?;
-    if len > 65537 {
-        return None;
-    }
     Some(Head {
         call,
         seed,
-        len,
+        length,
         given,
     })
 }
@@ -94,12 +89,13 @@ fn settle_state(state: &mut [u8; 216]) {
 
 // The state and the memory before the call.
 fn read_before(line: &mut Cursor, head: &Head, before: &mut Scene) -> Option<()> {
-    make::fill(head.seed, head.len, before);
+    make::fill(head.seed, head.length, before);
     items::set_items(line, before)?;
     settle_state(&mut before.state);
     Some(())
 }
 
+// `copy_from_slice` asks for one length, and no clause says that a scene keeps that of its memory.
 fn copy_bytes(from: &[u8], to: &mut [u8]) {
     for (old, new) in to.iter_mut().zip(from) {
         *old = *new;
@@ -168,7 +164,7 @@ pub fn replay_line(
 ) -> Result<(), Difference> {
     let mut line = Cursor::new(line);
     let head = read_head(&mut line).ok_or(Difference::Unread)?;
-    let n = head.len as usize;
+    let n = head.length.value as usize;
     let mut before = Scene {
         state: [0; 216],
         memory: &mut room[..n],

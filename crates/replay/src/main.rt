@@ -51,20 +51,19 @@ fn replay_all<W: Write>(
     say::print_counts(out, &counts)
 }
 
-// Room for the list.
+// Room for the list: fixed, since the program takes no memory from an allocator.
 fn list_buffer() -> [u8; 524288]
     ensures { 524288 ≡ length result }
 {
     [0; 524288]
 }
 
-// Room for the longest memory, and a byte more.
+// Room for the longest memory, and a byte more; fixed like the list's.
 fn memory_buffer() -> [u8; 65537] {
     [0; 65537]
 }
 
 fn main(rt: HostRuntime) -> io::Result<()> {
-    // fixed rooms: the program takes no memory from an allocator
     let mut list = list_buffer();
     let mut room = memory_buffer();
     let mut listed_room = memory_buffer();

@@ -55,8 +55,10 @@ fn start_machine() -> Machine
 fn show_value(report: Report) -> u32
     ensures { result ≡ shown_from report }
 {
-    let second = (report.number == 2) | (report.number == 3);
-    if second { report.second } else { report.first }
+    match report.number {
+        2 | 3 => report.second,
+        _ => report.first,
+    }
 }
 
 impl From<Finished> for Page {
