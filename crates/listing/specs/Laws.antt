@@ -1,2 +1,3 @@
 -- Laws that proofs cite; nothing here has to be believed.
+pub mod Reading
 pub mod Verdicts

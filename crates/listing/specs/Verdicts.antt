@@ -1,21 +1,13 @@
 -- When a verdict says that all is as listed.
-use Rattle.std.specs.Prelude.{◌≡◌, ℕ, Bool, true, false, ◌&&◌, ◌==◌}
+use Rattle.std.specs.Prelude.{◌≡◌, ℕ, Bool, true, false, ◌&&◌, ◌==◌, Result, is_ok}
 use Rattle.bits.specs.Cases.{when◌then◌else◌}
 use Rattle.cpu.specs.declared.Report.{Report}
-use Rattle.listing.specs.declared.judge.Verdict.{Verdict}
-use Rattle.listing.specs.declared.judge.Verdict.TheVariants.{Same, Unread, Number, First, Second, Count, Word, Byte}
+use Rattle.listing.specs.declared.judge.Difference.{Difference}
 
-abbrev pub is_same : Verdict → Bool
-is_same Same = true
-is_same Unread = false
-is_same (Number f l) = false
-is_same (First f l) = false
-is_same (Second f l) = false
-is_same (Count f l) = false
-is_same (Word p f l) = false
-is_same (Byte p f l) = false
+abbrev pub is_same : Result (Unit {0}) Difference → Bool
+is_same verdict = is_ok verdict
 
-unfoldable pub all_same : Verdict → Verdict → Verdict → Bool
+unfoldable pub all_same : Result (Unit {0}) Difference → Result (Unit {0}) Difference → Result (Unit {0}) Difference → Bool
 all_same a b c = is_same a && (is_same b && is_same c)
 
 -- the test says yes exactly where the fact holds

@@ -1,137 +1,113 @@
 // What a case left behind, held to what is listed.
-ghost use Rattle.std.specs.Prelude.{◌≡◌, false};
+ghost use Rattle.std.specs.Prelude.{◌≡◌, ◌==◌, is_none};
 ghost use Rattle.listing.specs.Verdicts.{is_same, all_same, Tells, same_answer};
 
 use cpu::Report;
 
-// What differs first: what was found, then what is listed; for words and bytes the place before both.
+// A value that is listed.
 #[derive(Clone, Copy)]
-pub enum Verdict {
-    Same,
+pub enum Place {
+    Number,
+    First,
+    Second,
+    Count,
+    Word(usize),
+    Byte(usize),
+}
+
+// Why a line is not as listed.
+#[derive(Clone, Copy)]
+pub enum Difference {
     // the line is no case
     Unread,
-    Number(u32, u32),
-    First(u32, u32),
-    Second(u32, u32),
-    Count(u32, u32),
-    Word(u32, u32, u32),
-    Byte(u32, u32, u32),
+    Value {
+        place: Place,
+        found: u32,
+        listed: u32,
+    },
+}
+
+fn judge_value(place: Place, found: u32, listed: u32) -> Result<(), Difference>
+    ensures { is_same result ≡ (found == listed) }
+{
+    if found == listed {
+        Ok(())
+    } else {
+        Err(Difference::Value {
+            place,
+            found,
+            listed,
+        })
+    }
 }
 
 // An answer, and the count of a run.
-pub fn judge_answer(found: Report, count: u32, listed: Report, due: u32) -> Verdict
+#[tactic(auto, using(crate::specs::Laws::Verdicts::number_by_number))]
+pub fn judge_answer(found: Report, count: u32, listed: Report, due: u32) -> Result<(), Difference>
     ensures { is_same result ≡ same_answer found count listed due }
 {
-    if found.number == listed.number {
-        if found.first == listed.first {
-            if found.second == listed.second {
-                if count == due {
-                    Verdict::Same
-                } else {
-                    Verdict::Count(count, due)
-                }
-            } else {
-                Verdict::Second(found.second, listed.second)
-            }
-        } else {
-            Verdict::First(found.first, listed.first)
-        }
+    judge_value(Place::Number, found.number, listed.number)?;
+    judge_value(Place::First, found.first, listed.first)?;
+    judge_value(Place::Second, found.second, listed.second)?;
+    judge_value(Place::Count, count, due)
+}
+
+// The first place where two slices of bytes differ, or where one of them ends.
+fn first_difference(a: &[u8], b: &[u8]) -> Option<usize>
+    ensures { Tells (is_none result) (a.now ≡ b.now) }
+{
+    if a == b {
+        None
     } else {
-        Verdict::Number(found.number, listed.number)
+        Some(a.iter().zip(b).take_while(|(x, y)| x == y).count())
     }
-}
-
-// The first place where two slices of bytes differ.
-fn first_difference(a: &[u8], b: &[u8]) -> usize {
-    let mut i = 0;
-    while i < a.len() && i < b.len() && a[i] == b[i] {
-        i += 1;
-    }
-    i
-}
-
-fn byte_at(bytes: &[u8], at: usize) -> u32 {
-    if at < bytes.len() {
-        byte_of(bytes[at])
-    } else {
-        0
-    }
-}
-
-fn byte_of(b: u8) -> u32 {
-    b as u32
 }
 
 // The first word of two states that differ.
-fn differing_word(found: &[u8; 216], listed: &[u8; 216]) -> Verdict
-    ensures { is_same result ≡ false }
-{
-    let i = first_difference(found, listed) / 4;
-    if i < 54 {
-        let at = 4 * i as u32;
-        Verdict::Word(
-            i as u32,
-            memory::read32(found, at),
-            memory::read32(listed, at),
-        )
-    } else {
-        Verdict::Unread
-    }
-}
-
-fn differing_byte(found: &[u8], listed: &[u8]) -> Verdict
-    ensures { is_same result ≡ false }
-{
-    let i = first_difference(found, listed);
-    if i < 65537 {
-        Verdict::Byte(i as u32, byte_at(found, i), byte_at(listed, i))
-    } else {
-        Verdict::Unread
-    }
-}
-
-pub fn judge_state(found: &[u8; 216], listed: &[u8; 216]) -> Verdict
+pub fn judge_state(found: &[u8; 216], listed: &[u8; 216]) -> Result<(), Difference>
     ensures { Tells (is_same result) (found.now ≡ listed.now) }
 {
-    if found == listed {
-        Verdict::Same
-    } else {
-        differing_word(found, listed)
+    match first_difference(found, listed) {
+        None => Ok(()),
+        Some(i) => {
+            // two arrays differ before their end
+            let word = (i / 4).min(53);
+            let at = 4 * word as u32;
+            Err(Difference::Value {
+                place: Place::Word(word),
+                found: memory::read32(found, at),
+                listed: memory::read32(listed, at),
+            })
+        }
     }
 }
 
-pub fn judge_memory(found: &[u8], listed: &[u8]) -> Verdict
+// A byte of a memory; past its end 0 is shown.
+fn byte_at(bytes: &[u8], at: usize) -> u32 {
+    bytes.get(at).map_or(0, |byte| *byte as u32)
+}
+
+pub fn judge_memory(found: &[u8], listed: &[u8]) -> Result<(), Difference>
     ensures { Tells (is_same result) (found.now ≡ listed.now) }
 {
-    if found == listed {
-        Verdict::Same
-    } else {
-        differing_byte(found, listed)
+    match first_difference(found, listed) {
+        None => Ok(()),
+        Some(at) => Err(Difference::Value {
+            place: Place::Byte(at),
+            found: byte_at(found, at),
+            listed: byte_at(listed, at),
+        }),
     }
 }
 
-pub fn is_same(verdict: Verdict) -> bool
-    ensures { result ≡ is_same verdict }
-{
-    match verdict {
-        Verdict::Same => true,
-        Verdict::Unread => false,
-        Verdict::Number(_, _) => false,
-        Verdict::First(_, _) => false,
-        Verdict::Second(_, _) => false,
-        Verdict::Count(_, _) => false,
-        Verdict::Word(_, _, _) => false,
-        Verdict::Byte(_, _, _) => false,
-    }
-}
-
-// The first of three verdicts that is not Same.
-pub fn first_of(a: Verdict, b: Verdict, c: Verdict) -> Verdict
+// The first of three verdicts that tells a difference.
+#[tactic(auto, using(crate::specs::Laws::Verdicts::in_turn_same))]
+pub fn first_of(
+    a: Result<(), Difference>,
+    b: Result<(), Difference>,
+    c: Result<(), Difference>,
+) -> Result<(), Difference>
     ensures { is_same result ≡ all_same a b c }
 {
-    if is_same(a) {
-        if is_same(b) { c } else { b }
-    } else {
-        a
-    }
+    a.and(b).and(c)
 }

@@ -5,4 +5,5 @@ pub mod items;
 pub mod judge;
 pub mod make;
 pub mod say;
+pub mod scene;
 pub mod text;

@@ -1,5 +1,7 @@
 // The state and the memory that a seed stands for; bench/src/record/made.rs makes the same.
-ghost use Rattle.std.specs.Prelude.{◌≤◌};
+ghost use Rattle.std.specs.Prelude.{◌≡◌, ◌<◌, ◌≤◌, MatchOption};
+
+use crate::scene::Scene;
 
 // xorshift32
 fn next(x: u32) -> u32 {
@@ -8,44 +10,66 @@ fn next(x: u32) -> u32 {
     b ^ (b << 5)
 }
 
+// How long a memory is; one byte more than the core takes may be listed.
+#[derive(Clone, Copy)]
+pub struct Length {
+    pub value: u32,
+    ghost fits: { value ≤ 65537 },
+}
+
+impl Length {
+    pub fn new(value: u32) -> Option<Self>
+        ensures { MatchOption result (65537 < value) (λ length. length.value ≡ value) }
+    {
+        if value <= 65537 {
+            Some(Length { value })
+        } else {
+            None
+        }
+    }
+
+    // Addresses in the memory and just past it.
+    fn address(self, any: u32) -> u32 {
+        any % (self.value + 8)
+    }
+}
+
+static EDGES: [u32; 16] = [
+    0,
+    1,
+    2,
+    0x1F,
+    0x7F,
+    0x80,
+    0xFF,
+    0x7FFF,
+    0x8000,
+    0xFFFF,
+    0x7FFF_FFFF,
+    0x8000_0000,
+    0x8000_0001,
+    0x8000_8000,
+    0x7FFF_7FFF,
+    0xFFFF_FFFF,
+];
+
+static MODES: [u32; 7] = [0x10, 0x11, 0x12, 0x13, 0x17, 0x1B, 0x1F];
+
 fn edge(i: u32) -> u32 {
-    let edges = [
-        0,
-        1,
-        2,
-        0x1F,
-        0x7F,
-        0x80,
-        0xFF,
-        0x7FFF,
-        0x8000,
-        0xFFFF,
-        0x7FFF_FFFF,
-        0x8000_0000,
-        0x8000_0001,
-        0x8000_8000,
-        0x7FFF_7FFF,
-        0xFFFF_FFFF,
-    ];
-    let k = (i % 16) as usize;
-    edges[k]
+    EDGES[(i % 16) as usize]
 }
 
 fn mode(i: u32) -> u32 {
-    let modes = [0x10, 0x11, 0x12, 0x13, 0x17, 0x1B, 0x1F];
-    let k = (i % 7) as usize;
-    modes[k]
+    MODES[(i % 7) as usize]
 }
 
 // Any word, an edge, a small number, or an address in or just past the memory.
-fn value(kind: u32, any: u32, len: u32) -> u32
-    requires { len ≤ 65537 }
-{
+fn value(kind: u32, any: u32, length: Length) -> u32 {
     match kind % 8 {
         0 | 1 | 2 | 3 => any,
         4 | 5 => edge(any),
         6 => any % 64,
-        _ => any % (len + 8),
+        _ => length.address(any),
     }
 }
 
@@ -64,71 +88,57 @@ fn aligned(x: u32) -> u32 {
 }
 
 // Word i of a state, of two random words.
-fn word(i: u32, kind: u32, any: u32, len: u32) -> u32
-    requires { len ≤ 65537 }
-{
+fn word(i: u32, kind: u32, any: u32, length: Length) -> u32 {
     match i {
-        15 => aligned(any % (len + 8)),
+        15 => aligned(length.address(any)),
         16 => current(kind, any),
         17 | 18 | 19 | 20 | 21 | 22 => status(kind, any),
         23 | 24 | 25 | 26 | 27 | 28 | 29 => any % 16,
         52 => any % 2,
-        _ => value(kind, any, len),
+        _ => value(kind, any, length),
     }
 }
 
 // Words 0 to 53, and the generator to go on with.
-fn make_words(seed: u32, len: u32, state: &mut [u8; 216]) -> u32
-    requires { len ≤ 65537 }
-{
+fn make_words(seed: u32, length: Length, state: &mut [u8; 216]) -> u32 {
     let mut x = seed;
-    let mut i: u32 = 0;
-    while i < 54 {
+    for i in 0u32..54 {
         let kind = next(x);
         let any = next(kind);
-        memory::write32(state, 4 * i, word(i, kind, any, len));
+        memory::write32(state, 4 * i, word(i, kind, any, length));
         x = any;
-        i += 1;
     }
     x
 }
 
 fn make_bytes(seed: u32, memory: &mut [u8]) {
     let mut x = seed;
-    let mut i = 0;
-    while i < memory.len() {
+    for byte in memory.iter_mut() {
         x = next(x);
-        memory[i] = (x / 65536 % 256) as u8;
-        i += 1;
+        *byte = (x / 65536 % 256) as u8;
     }
 }
 
 // System mode in all records, all other words 0.
 fn plain_words(state: &mut [u8; 216]) {
-    let mut i: u32 = 16;
-    while i < 23 {
+    for i in 16u32..23 {
         memory::write32(state, 4 * i, 0x1F);
-        i += 1;
     }
 }
 
 // Each byte is the low byte of its address.
 fn number_bytes(memory: &mut [u8]) {
-    let mut i = 0;
-    while i < memory.len() {
-        memory[i] = (i % 256) as u8;
-        i += 1;
+    for (at, byte) in memory.iter_mut().enumerate() {
+        *byte = (at % 256) as u8;
     }
 }
 
 // Into a state of zeros. Seed 0 is the plain state and numbered bytes.
-pub fn fill(seed: u32, len: u32, state: &mut [u8; 216], memory: &mut [u8])
-    requires { len ≤ 65537 }
-{
+pub fn fill(seed: u32, length: Length, scene: &mut Scene) {
     if seed == 0 {
-        plain_words(state);
-        number_bytes(memory);
+        plain_words(&mut scene.state);
+        number_bytes(scene.memory);
     } else {
-        make_bytes(make_words(seed, len, state), memory);
+        make_bytes(make_words(seed, length, &mut scene.state), scene.memory);
     }
 }

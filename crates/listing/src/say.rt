@@ -1,68 +1,48 @@
 // What the program prints: the first difference, or the counts.
-use crate::judge::Verdict;
-use std::io;
+use crate::judge::{Difference, Place};
 use std::io::Write;
+use std::{fmt, io};
 
-fn print_values<W: Write>(out: &mut W, found: u32, listed: u32) -> io::Result<()> {
-    write!(out, "{found:08x}, listed {listed:08x}")
-}
-
-fn print_word<W: Write>(out: &mut W, place: u32, found: u32, listed: u32) -> io::Result<()> {
-    write!(out, "word {place} is ")?;
-    print_values(out, found, listed)
-}
-
-fn print_byte<W: Write>(out: &mut W, place: u32, found: u32, listed: u32) -> io::Result<()> {
-    write!(out, "the byte at {place:08x} is ")?;
-    print_values(out, found, listed)
-}
-
-fn print_verdict<W: Write>(out: &mut W, verdict: Verdict) -> io::Result<()> {
-    match verdict {
-        Verdict::Same => out.write_all(b"as listed"),
-        Verdict::Unread => out.write_all(b"no case"),
-        Verdict::Number(found, listed) => {
-            out.write_all(b"the answer is ")?;
-            print_values(out, found, listed)
+impl fmt::Display for Place {
+    fn fmt<W: fmt::Write>(&self, f: &mut fmt::Formatter<W>) -> fmt::Result {
+        match *self {
+            Place::Number => write!(f, "the answer"),
+            Place::First => write!(f, "the answer's first value"),
+            Place::Second => write!(f, "the answer's second value"),
+            Place::Count => write!(f, "the count"),
+            Place::Word(word) => write!(f, "word {word}"),
+            Place::Byte(at) => write!(f, "the byte at {at:08x}"),
         }
-        Verdict::First(found, listed) => {
-            out.write_all(b"the answer's first value is ")?;
-            print_values(out, found, listed)
-        }
-        Verdict::Second(found, listed) => {
-            out.write_all(b"the answer's second value is ")?;
-            print_values(out, found, listed)
-        }
-        Verdict::Count(found, listed) => {
-            out.write_all(b"the count is ")?;
-            print_values(out, found, listed)
-        }
-        Verdict::Word(place, found, listed) => print_word(out, place, found, listed),
-        Verdict::Byte(place, found, listed) => print_byte(out, place, found, listed),
     }
 }
 
-pub fn print_difference<W: Write>(out: &mut W, line: u32, verdict: Verdict) -> io::Result<()> {
-    write!(out, "line {line}: ")?;
-    print_verdict(out, verdict)?;
-    out.write_all(b"\n")
+impl fmt::Display for Difference {
+    fn fmt<W: fmt::Write>(&self, f: &mut fmt::Formatter<W>) -> fmt::Result {
+        match *self {
+            Difference::Unread => write!(f, "no case"),
+            Difference::Value {
+                place,
+                found,
+                listed,
+            } => write!(f, "{place} is {found:08x}, listed {listed:08x}"),
+        }
+    }
 }
 
-fn print_count<W: Write>(out: &mut W, answer: u32, count: u32) -> io::Result<()> {
-    writeln!(out, "answer {answer}: {count}")
-}
-
-fn print_all<W: Write>(out: &mut W, cases: u32) -> io::Result<()> {
-    writeln!(out, "{cases} cases, all as listed")
+pub fn print_difference<W: Write>(
+    out: &mut W,
+    line: u32,
+    difference: Difference,
+) -> io::Result<()> {
+    writeln!(out, "line {line}: {difference}")
 }
 
 // The cases of each answer, and all of them.
 pub fn print_counts<W: Write>(out: &mut W, counts: &[u32; 12]) -> io::Result<()> {
     let mut all: u32 = 0;
-    for answer in 0u32..12 {
-        let i = answer as usize;
-        print_count(out, answer, counts[i])?;
-        all = std::num::wrapping_add_u32(all, counts[i]);
+    for (answer, count) in counts.iter().enumerate() {
+        writeln!(out, "answer {answer}: {count}")?;
+        all = all.wrapping_add(*count);
     }
-    print_all(out, all)
+    writeln!(out, "{all} cases, all as listed")
 }

@@ -1,11 +1,28 @@
-// Reading a line of the list: each function reads from a place on and answers the place after it. What cannot be read leads to the end of the line, where nothing can be read.
-ghost use Rattle.std.specs.Prelude.{◌≡◌, ◌≢◌, ℕ, ◌<◌, ◌≤◌, length, slice_index};
+// Reading a line of the list from left to right; `None` where it cannot be read.
+ghost use Rattle.std.specs.Prelude.{◌≡◌, ◌≢◌, ℕ, ◌<◌, ◌≤◌, ◌∷◌, IfSome, IfNone, MatchOption, length, slice_index};
 ghost use Rattle.listing.specs.Digits.{digit_of};
+ghost use Rattle.listing.specs.Reading.{LeadsTo};
 
-#[derive(Clone, Copy)]
-pub struct Number {
-    pub value: u32,
-    pub at: usize,
+// Where the byte b first stands.
+pub fn find(text: &[u8], b: u8) -> Option<usize>
+    ensures bounds { IfSome result (λ at. at < length text.now) }
+    ensures before { IfSome result (λ at. (k : ℕ) → k < at → slice_index text.now k ≢ b) }
+    ensures found { IfSome result (λ at. slice_index text.now at ≡ b) }
+    ensures absent { IfNone result ((k : ℕ) → k < length text.now → slice_index text.now k ≢ b) }
+{
+    text.iter().position(|x| *x == b)
+}
+
+// The value of a hexadecimal digit, in capitals.
+pub fn digit_value(b: u8) -> Option<u32>
+    ensures value { result ≡ digit_of b }
+    ensures small { IfSome result (λ digit. digit < 16) }
+{
+    match b {
+        b'0'..=b'9' => Some(b as u32 - 48),
+        b'A'..=b'F' => Some(b as u32 - 55),
+        _ => None,
+    }
 }
 
 // A place and what is to stand there, `place=value`.
@@ -13,136 +30,88 @@ pub struct Number {
 pub struct Item {
     pub place: u32,
     pub value: u32,
-    pub at: usize,
 }
 
-// Where a line ends, and where the next begins.
-#[derive(Clone, Copy)]
-pub struct Line {
-    pub end: usize,
-    pub next: usize,
+// What is left of a line.
+#[derive(Drop)]
+pub struct Cursor<'a> {
+    pub rest: &'a [u8],
 }
 
-// Where the byte b first stands from a place on, or the end.
-pub fn find(text: &[u8], from: usize, b: u8) -> usize
-    requires { from ≤ length text.now }
-    ensures bounds { (from ≤ result) × (result ≤ length text.now) }
-    ensures before { (k : ℕ) → from ≤ k → k < result → slice_index text.now k ≢ b }
-    ensures found { result < length text.now → slice_index text.now result ≡ b }
-{
-    let mut at = from;
-    while at < text.len() && text[at] != b {
-        at += 1;
+#[tactic(auto, using(crate::specs::Laws::Reading::leading))]
+impl<'a> Cursor<'a> {
+    pub fn new(line: &'a [u8]) -> Self
+        ensures { result.rest.now ≡ line.now }
+    {
+        Cursor { rest: line }
     }
-    at
-}
 
-pub fn read_line(text: &[u8], at: usize) -> Line
-    requires { at < length text.now }
-    ensures { (at ≤ result.end) × (result.end ≤ length text.now) × (at < result.next) × (result.next ≤ length text.now) }
-{
-    let end = find(text, at, b'\n');
-    if end < text.len() {
-        Line { end, next: end + 1 }
-    } else {
-        Line { end, next: end }
+    // To where the byte b first stands.
+    pub fn skip_to(&mut self, b: u8) -> Option<()>
+        ensures { LeadsTo self.old.rest.now self.new.rest.now }
+    {
+        let at = find(self.rest, b)?;
+        let (_, rest) = self.rest.split_at(at);
+        self.rest = rest;
+        Some(())
     }
-}
 
-// 16 for what is no digit.
-pub fn digit_value(b: u8) -> u32
-    ensures { result ≡ digit_of b }
-{
-    if b <= 47 {
-        16
-    } else if b <= 57 {
-        b as u32 - 48
-    } else if b <= 64 {
-        16
-    } else if b <= 70 {
-        b as u32 - 55
-    } else {
-        16
-    }
-}
-
-// Whether b is a digit, and one more digit fits.
-fn takes_digit(value: u32, b: u8) -> bool {
-    value < 0x1000_0000 && digit_value(b) < 16
-}
-
-fn add_digit(value: u32, b: u8) -> u32 {
-    value % 0x1000_0000 * 16 + digit_value(b) % 16
-}
-
-// Hexadecimal digits, one to eight.
-pub fn read_number(line: &[u8], from: usize) -> Number
-    requires { from ≤ length line.now }
-    ensures { (from ≤ result.at) × (result.at ≤ length line.now) }
-{
-    let mut value: u32 = 0;
-    let mut at = from;
-    while at < line.len() && takes_digit(value, line[at]) {
-        value = add_digit(value, line[at]);
-        at += 1;
-    }
-    if at == from {
-        Number {
-            value: 0,
-            at: line.len(),
+    // Past the byte b, which must stand there.
+    pub fn pass(&mut self, b: u8) -> Option<()>
+        ensures cases { MatchOption result (self.new.rest.now ≡ self.old.rest.now) (λ _. self.old.rest.now ≡ b ∷ self.new.rest.now) }
+        ensures leads { LeadsTo self.old.rest.now self.new.rest.now }
+    {
+        let (first, rest) = self.rest.split_first()?;
+        if *first != b {
+            return None;
         }
-    } else {
-        Number { value, at }
+        self.rest = rest;
+        Some(())
     }
-}
 
-// Past the byte b, which must stand there.
-pub fn pass(line: &[u8], at: usize, b: u8) -> usize
-    requires { at ≤ length line.now }
-    ensures { (at ≤ result) × (result ≤ length line.now) }
-{
-    if at < line.len() {
-        if line[at] == b { at + 1 } else { line.len() }
-    } else {
-        line.len()
+    fn digit(&mut self) -> Option<u32>
+        ensures small { IfSome result (λ digit. digit < 16) }
+        ensures leads { LeadsTo self.old.rest.now self.new.rest.now }
+        ensures shorter { IfSome result (λ _. length self.new.rest.now < length self.old.rest.now) }
+    {
+        let (first, rest) = self.rest.split_first()?;
+        let digit = digit_value(*first)?;
+        self.rest = rest;
+        Some(digit)
     }
-}
 
-// A blank, then a number.
-pub fn read_field(line: &[u8], at: usize) -> Number
-    requires { at ≤ length line.now }
-    ensures { (at ≤ result.at) × (result.at ≤ length line.now) }
-{
-    let digits = pass(line, at, b' ');
-    read_number(line, digits)
-}
-
-pub fn read_item(line: &[u8], at: usize) -> Item
-    requires { at ≤ length line.now }
-    ensures { (at ≤ result.at) × (result.at ≤ length line.now) }
-{
-    let place = read_number(line, at);
-    let digits = pass(line, place.at, b'=');
-    let value = read_number(line, digits);
-    Item {
-        place: place.value,
-        value: value.value,
-        at: value.at,
+    // Hexadecimal digits, one to eight with zeros before them.
+    pub fn number(&mut self) -> Option<u32>
+        ensures { LeadsTo self.old.rest.now self.new.rest.now }
+    {
+        let mut value = self.digit()?;
+        while value < 0x1000_0000
+            && let Some(digit) = self.digit()
+        {
+            value = 16 * value + digit;
+        }
+        Some(value)
     }
-}
 
-// 0 where there is none.
-pub fn byte_at(line: &[u8], at: usize) -> u8 {
-    if at < line.len() { line[at] } else { 0 }
-}
+    // A blank, then a number.
+    pub fn field(&mut self) -> Option<u32>
+        ensures { LeadsTo self.old.rest.now self.new.rest.now }
+    {
+        self.pass(b' ')?;
+        self.number()
+    }
 
-// Whether ` ;` stands there, which ends a case.
-pub fn has_end(line: &[u8], at: usize) -> bool
-    requires { at ≤ length line.now }
-{
-    if 1 < line.len() - at {
-        (line[at] == b' ') & (line[at + 1] == b';')
-    } else {
-        false
+    pub fn item(&mut self) -> Option<Item>
+        ensures { LeadsTo self.old.rest.now self.new.rest.now }
+    {
+        let place = self.number()?;
+        self.pass(b'=')?;
+        let value = self.number()?;
+        Some(Item { place, value })
+    }
+
+    // Whether ` ;` stands there, which ends a case.
+    pub fn has_end(&self) -> bool {
+        self.rest.starts_with(b" ;")
     }
 }

@@ -1,98 +1,84 @@
 // One line of the list, replayed.
-ghost use Rattle.std.specs.Prelude.{◌≤◌, length};
-
 use cpu::{Machine, Report};
-use engine::Finished;
-use listing::judge::Verdict;
-use listing::{items, judge, make, text};
+use engine::{Finished, Stepped};
+use listing::judge::Difference;
+use listing::make::Length;
+use listing::scene::Scene;
+use listing::text::Cursor;
+use listing::{items, judge, make};
 
-// What a line lists: the answer with its values, and the count of a run.
+// The calls that a line may name.
+#[derive(Clone, Copy)]
+enum Call {
+    Step,
+    Fetch,
+    Run,
+}
+
+// What a line says first: the call with the number given to it, and what the machine is made of.
+#[derive(Clone, Copy)]
+struct Head {
+    call: Call,
+    seed: u32,
+    length: Length,
+    given: u32,
+}
+
+// What a line says last: the answer with its values, and the count of a run.
 #[derive(Clone, Copy)]
 struct Listed {
     report: Report,
     count: u32,
-    at: usize,
+}
+
+// `step`, `fetch` or `run`; the rest of the first word says only where the answer is from.
+fn call_of(letter: u8) -> Option<Call> {
+    match letter {
+        b's' => Some(Call::Step),
+        b'f' => Some(Call::Fetch),
+        b'r' => Some(Call::Run),
+        _ => None,
+    }
+}
+
+// The lengths that the list may name are those of the rooms.
+fn read_head(line: &mut Cursor) -> Option<Head> {
+    let call = call_of(*line.rest.first()?)?;
+    line.skip_to(b' ')?;
+    let seed = line.field()?;
+    let length = Length::new(line.field()?)?;
+    let given = line.field()?;
+    Some(Head {
+        call,
+        seed,
+        length,
+        given,
+    })
 }
 
 // The count, where the line is a run.
-fn read_count(kind: u8, line: &[u8], at: usize) -> text::Number
-    requires { at ≤ length line.now }
-    ensures { (at ≤ result.at) × (result.at ≤ length line.now) }
-{
-    if kind == b'r' {
-        text::read_field(line, at)
-    } else {
-        text::Number { value: 0, at }
+fn read_count(line: &mut Cursor, call: Call) -> Option<u32> {
+    match call {
+        Call::Run => line.field(),
+        Call::Step | Call::Fetch => Some(0),
     }
 }
 
-fn read_listed(kind: u8, line: &[u8], from: usize) -> Listed
-    requires { from ≤ length line.now }
-    ensures { (from ≤ result.at) × (result.at ≤ length line.now) }
-{
-    let mark = text::pass(line, from, b' ');
-    let at = text::pass(line, mark, b'>');
-    let number = text::read_field(line, at);
-    let first = text::read_field(line, number.at);
-    let second = text::read_field(line, first.at);
-    let count = read_count(kind, line, second.at);
-    Listed {
+fn read_listed(line: &mut Cursor, call: Call) -> Option<Listed> {
+    line.pass(b' ')?;
+    line.pass(b'>')?;
+    let number = line.field()?;
+    let first = line.field()?;
+    let second = line.field()?;
+    let count = read_count(line, call)?;
+    Some(Listed {
         report: Report {
-            number: number.value,
-            first: first.value,
-            second: second.value,
+            number,
+            first,
+            second,
         },
-        count: count.value,
-        at: count.at,
-    }
-}
-
-// The call that a line's first letter names: run, fetch or step.
-fn call(kind: u8, m: Machine, given: u32, memory: &mut [u8]) -> Finished {
-    if kind == b'r' {
-        engine::run(m, memory, given)
-    } else if kind == b'f' {
-        let s = engine::step(m, memory);
-        let machine = s.machine;
-        let answer = s.answer;
-        Finished {
-            machine,
-            answer,
-            count: 0,
-        }
-    } else {
-        let s = engine::step_opcode(m, given, memory);
-        let machine = s.machine;
-        let answer = s.answer;
-        Finished {
-            machine,
-            answer,
-            count: 0,
-        }
-    }
-}
-
-// The call taken, and all that it left held to what is listed.
-fn judge_call(
-    kind: u8,
-    given: u32,
-    state: &[u8; 216],
-    memory: &mut [u8],
-    listed: Listed,
-    listed_state: &[u8; 216],
-    listed_memory: &[u8],
-) -> Verdict {
-    let m = state::read_state(state);
-    let f = call(kind, m, given, memory);
-    let answer = f.answer;
-    let machine = f.machine;
-    let mut left = [0u8; 216];
-    state::write_state(&mut left, machine);
-    let report = listed.report;
-    let by_answer = judge::judge_answer(cpu::report_answer(answer), f.count, report, listed.count);
-    let by_state = judge::judge_state(&left, listed_state);
-    let by_memory = judge::judge_memory(memory, listed_memory);
-    judge::first_of(by_answer, by_state, by_memory)
+        count,
+    })
 }
 
 // The state as the machine is read from it: what a packed word drops is dropped.
@@ -101,107 +87,91 @@ fn settle_state(state: &mut [u8; 216]) {
     state::write_state(state, m);
 }
 
-fn copy_bytes(from: &[u8], to: &mut [u8]) {
-    let mut i = 0;
-    while i < from.len() && i < to.len() {
-        to[i] = from[i];
-        i += 1;
-    }
-}
-
 // The state and the memory before the call.
-fn prepare(
-    line: &[u8],
-    from: usize,
-    seed: u32,
-    len: u32,
-    state: &mut [u8; 216],
-    memory: &mut [u8],
-) -> usize
-    requires { (from ≤ length line.now) × (len ≤ 65537) }
-    ensures { (from ≤ result) × (result ≤ length line.now) }
-{
-    make::fill(seed, len, state, memory);
-    let at = items::set_items(line, from, state, memory);
-    settle_state(state);
-    at
+fn read_before(line: &mut Cursor, head: &Head, before: &mut Scene) -> Option<()> {
+    make::fill(head.seed, head.length, before);
+    items::set_items(line, before)?;
+    settle_state(&mut before.state);
+    Some(())
 }
 
-// A case from the number given to the call on; both memories are as long as the case says.
-fn replay_given(
-    kind: u8,
-    line: &[u8],
-    from: usize,
-    seed: u32,
-    len: u32,
-    memory: &mut [u8],
-    listed_memory: &mut [u8],
-) -> Verdict
-    requires { (from ≤ length line.now) × (len ≤ 65537) }
-{
-    let given = text::read_field(line, from);
-    let mut state = [0u8; 216];
-    let middle = prepare(line, given.at, seed, len, &mut state, memory);
-    let mut listed_state = state;
-    copy_bytes(memory, listed_memory);
-    let listed = read_listed(kind, line, middle);
-    let last = items::set_items(line, listed.at, &mut listed_state, listed_memory);
-    if text::has_end(line, last) {
-        judge_call(
-            kind,
-            given.value,
-            &state,
-            memory,
-            listed,
-            &listed_state,
-            listed_memory,
-        )
-    } else {
-        Verdict::Unread
+// `copy_from_slice` asks for one length, and no clause says that a scene keeps that of its memory.
+fn copy_bytes(from: &[u8], to: &mut [u8]) {
+    for (old, new) in to.iter_mut().zip(from) {
+        *old = *new;
     }
 }
 
-// The lengths that the list may name are those of the buffers.
+// What is listed after the call: what was before it, but for the items.
+fn read_after(line: &mut Cursor, head: &Head, before: &Scene, after: &mut Scene) -> Option<Listed> {
+    after.state = before.state;
+    copy_bytes(before.memory, after.memory);
+    let listed = read_listed(line, head.call)?;
+    items::set_items(line, after)?;
+    if line.has_end() { Some(listed) } else { None }
+}
+
+// A step has no count.
+fn uncounted(s: Stepped) -> Finished {
+    Finished {
+        machine: s.machine,
+        answer: s.answer,
+        count: 0,
+    }
+}
+
+fn take_call(head: &Head, m: Machine, memory: &mut [u8]) -> Finished {
+    match head.call {
+        Call::Step => uncounted(engine::step_opcode(m, head.given, memory)),
+        Call::Fetch => uncounted(engine::step(m, memory)),
+        Call::Run => engine::run(m, memory, head.given),
+    }
+}
+
+// The call taken, and all that it left held to what is listed.
+fn judge_call(
+    head: &Head,
+    scene: &mut Scene,
+    listed: Listed,
+    after: &Scene,
+) -> Result<(), Difference> {
+    let m = state::read_state(&scene.state);
+    let f = take_call(head, m, scene.memory);
+    state::write_state(&mut scene.state, f.machine);
+    let found = cpu::report_answer(f.answer);
+    judge::first_of(
+        judge::judge_answer(found, f.count, listed.report, listed.count),
+        judge::judge_state(&scene.state, &after.state),
+        judge::judge_memory(scene.memory, after.memory),
+    )
+}
+
 fn replay_case(
-    kind: u8,
-    line: &[u8],
-    from: usize,
-    memory: &mut [u8],
-    listed_memory: &mut [u8],
-) -> Verdict
-    requires { from ≤ length line.now }
-{
-    let seed = text::read_field(line, from);
-    let len = text::read_field(line, seed.at);
-    let n = len.value as usize;
-    if n <= 65537 {
-        if n <= memory.len() {
-            if n <= listed_memory.len() {
-                let mine = &mut memory[0..n];
-                let listed = &mut listed_memory[0..n];
-                replay_given(kind, line, len.at, seed.value, len.value, mine, listed)
-            } else {
-                Verdict::Unread
-            }
-        } else {
-            Verdict::Unread
-        }
-    } else {
-        Verdict::Unread
-    }
+    line: &mut Cursor,
+    head: &Head,
+    before: &mut Scene,
+    after: &mut Scene,
+) -> Result<(), Difference> {
+    read_before(line, head, before).ok_or(Difference::Unread)?;
+    let listed = read_after(line, head, before, after).ok_or(Difference::Unread)?;
+    judge_call(head, before, listed, after)
 }
 
-// `step`, `fetch` or `run`; the rest of the first word says only where the answer is from.
 pub fn replay_line(
     line: &[u8],
-    memory: &mut [u8; 65537],
-    listed_memory: &mut [u8; 65537],
-) -> Verdict {
-    let kind = text::byte_at(line, 0);
-    if kind == b's' || kind == b'f' || kind == b'r' {
-        let from = text::find(line, 0, b' ');
-        replay_case(kind, line, from, memory, listed_memory)
-    } else {
-        Verdict::Unread
-    }
+    room: &mut [u8; 65537],
+    listed_room: &mut [u8; 65537],
+) -> Result<(), Difference> {
+    let mut line = Cursor::new(line);
+    let head = read_head(&mut line).ok_or(Difference::Unread)?;
+    let n = head.length.value as usize;
+    let mut before = Scene {
+        state: [0; 216],
+        memory: &mut room[..n],
+    };
+    let mut after = Scene {
+        state: [0; 216],
+        memory: &mut listed_room[..n],
+    };
+    replay_case(&mut line, &head, &mut before, &mut after)
 }

@@ -55,30 +55,32 @@ fn start_machine() -> Machine
 fn show_value(report: Report) -> u32
     ensures { result ≡ shown_from report }
 {
-    let second = (report.number == 2) | (report.number == 3);
-    if second { report.second } else { report.first }
+    match report.number {
+        2 | 3 => report.second,
+        _ => report.first,
+    }
 }
 
-fn fill_page(f: Finished) -> Page
-    ensures { result ≡ page_of f }
-{
-    let machine = f.machine;
-    let regs = machine.regs;
-    let cpsr = machine.cpsr;
-    let answer = f.answer;
-    let report = cpu::report_answer(answer);
-    let packed = psr::pack(cpsr);
-    Page {
-        exit: report.number,
-        shown: show_value(report),
-        steps: f.count,
-        regs,
-        cpsr: packed.word,
+impl From<Finished> for Page {
+    ghost from_gives = { λ f page. page ≡ page_of f };
+
+    fn from(f: Finished) -> Page {
+        let machine = f.machine;
+        let regs = machine.regs;
+        let report = cpu::report_answer(f.answer);
+        let packed = psr::pack(machine.cpsr);
+        Page {
+            exit: report.number,
+            shown: show_value(report),
+            steps: f.count,
+            regs,
+            cpsr: packed.word,
+        }
     }
 }
 
 pub fn run_image(mem: &mut [u8]) -> Page
     ensures { Shows mem.old result }
 {
-    fill_page(engine::run(start_machine(), mem, 10000))
+    Page::from(engine::run(start_machine(), mem, 10000))
 }

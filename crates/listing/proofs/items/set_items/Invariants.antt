@@ -1,8 +1,9 @@
-use Rattle.std.proofs.Common.{◌≡◌, ◌-◌, ◌≤◌, length}
+use Rattle.std.proofs.Common.{length}
+use Rattle.listing.specs.Reading.{LeadsTo}
 use Rattle.listing.proofs.items.set_items.Given as goal
 
-abbrev pub invariant-loop-at : goal.invariant-loop-at
-invariant-loop-at l = (l.from ≤ l.at) × (l.at ≤ length l.line) × (length l.memory ≡ length l.initial.memory)
+abbrev pub invariant-loop-line : goal.invariant-loop-line
+invariant-loop-line l = LeadsTo l.fn.line.rest.now l.line.rest.now
 
-abbrev pub decreases-loop-at : goal.decreases-loop-at
-decreases-loop-at l = length l.line - l.at
+abbrev pub decreases-loop-line : goal.decreases-loop-line
+decreases-loop-line l = length l.line.rest.now

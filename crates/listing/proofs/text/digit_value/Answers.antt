@@ -2,22 +2,22 @@ use Rattle.bits.specs.Cases.{cases}
 use Rattle.listing.specs.Digits.{digit_of}
 use Rattle.listing.proofs.text.digit_value.Goals as goal
 
-pub returns-then-b-le47 : goal.returns-then-b-le47
+pub returns-in-48-to-57-clause-value : goal.returns-in-48-to-57-clause-value
 unfolding digit_of
-returns-then-b-le47 c = search cases
+returns-in-48-to-57-clause-value c = search cases
 
-pub returns-then-b-le57 : goal.returns-then-b-le57
+pub returns-in-65-to-70-clause-value : goal.returns-in-65-to-70-clause-value
 unfolding digit_of
-returns-then-b-le57 c = search cases
+returns-in-65-to-70-clause-value c = search cases
 
-pub returns-then-b-le64 : goal.returns-then-b-le64
+pub returns-in_default-clause-value : goal.returns-in_default-clause-value
 unfolding digit_of
-returns-then-b-le64 c = search cases
+returns-in_default-clause-value c = search cases
 
-pub returns-then-b-le70 : goal.returns-then-b-le70
+pub returns-in_default-2-clause-value : goal.returns-in_default-2-clause-value
 unfolding digit_of
-returns-then-b-le70 c = search cases
+returns-in_default-2-clause-value c = search cases
 
-pub returns-else-b-le70 : goal.returns-else-b-le70
+pub returns-in_default-3-clause-value : goal.returns-in_default-3-clause-value
 unfolding digit_of
-returns-else-b-le70 c = search cases
+returns-in_default-3-clause-value c = search cases

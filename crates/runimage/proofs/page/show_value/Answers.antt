@@ -2,10 +2,14 @@ use Rattle.bits.specs.Cases.{cases}
 use Rattle.runimage.specs.Image.{shown_from}
 use Rattle.runimage.proofs.page.show_value.Goals as goal
 
-pub returns-then-second : goal.returns-then-second
+pub returns-in-2 : goal.returns-in-2
 unfolding shown_from
-returns-then-second c = search cases
+returns-in-2 c = search cases
 
-pub returns-else-second : goal.returns-else-second
+pub returns-in_default : goal.returns-in_default
 unfolding shown_from
-returns-else-second c = search cases
+returns-in_default c = search cases
+
+pub returns-in_default-2 : goal.returns-in_default-2
+unfolding shown_from
+returns-in_default-2 c = search cases
