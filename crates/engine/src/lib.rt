@@ -2,7 +2,8 @@
 #![tactic(auto, using(bits::specs::Cases::cases))]
 
 ghost use Rattle.std.specs.Prelude.{◌≡◌, length, None, Some, Ok};
-ghost use Rattle.engine.specs.Step.{fetches};
+ghost use Rattle.engine.specs.Step.{refused, fetches};
+ghost use Rattle.engine.specs.Run.{finished};
 ghost use Rattle.engine.specs.Promises.{Steps, StepsWith, Runs};
 ghost use Rattle.engine.specs.Laws.Gate.{gate_of};
 ghost use Rattle.engine.specs.Laws.Walk.{next_op, step_by, Goes};
@@ -61,6 +62,19 @@ fn next_opcode(mem: &[u8], at: u32, given: Option<u32>) -> Option<u32>
     }
 }
 
+// A step that is refused after its instruction was begun: r15 is A again.
+fn refuse(m: Machine, at: u32, answer: Answer, count: u32) -> Finished
+    ensures { result ≡ finished (refused m at answer).machine answer count }
+{
+    let mut machine = m;
+    machine.regs[15] = at;
+    Finished {
+        machine,
+        answer,
+        count,
+    }
+}
+
 // At most budget steps of a machine that the gate admits, which changes in place: each arm of the match ends a step.
 fn go(m: Machine, mem: &mut [u8], given: Option<u32>, budget: u32) -> Finished
     requires { gate_of m (length mem.old) ≡ Ok tt }
@@ -102,14 +116,7 @@ fn go(m: Machine, mem: &mut [u8], given: Option<u32>, budget: u32) -> Finished
             Outcome::Block => {
                 match block::transfer_user(cur, op, mem) {
                     Ok(machine) => cur = machine,
-                    Err(answer) => {
-                        cur.regs[15] = at;
-                        return Finished {
-                            machine: cur,
-                            answer,
-                            count: k,
-                        };
-                    }
+                    Err(answer) => return refuse(cur, at, answer, k),
                 }
             }
             Outcome::Call(number) => {
@@ -119,14 +126,7 @@ fn go(m: Machine, mem: &mut [u8], given: Option<u32>, budget: u32) -> Finished
                     count: k + 1,
                 };
             }
-            Outcome::Stop(answer) => {
-                cur.regs[15] = at;
-                return Finished {
-                    machine: cur,
-                    answer,
-                    count: k,
-                };
-            }
+            Outcome::Stop(answer) => return refuse(cur, at, answer, k),
         }
     }
     Finished {
@@ -173,14 +173,9 @@ pub fn run(m: Machine, mem: &mut [u8], budget: u32) -> Finished
     match admit(m, mem.len()) {
         Ok(()) => {
             let f = go(m, mem, None, budget);
-            if f.answer.is_done() {
-                Finished {
-                    answer: Answer::Timeout,
-                    ..f
-                }
-            } else {
-                f
-            }
+            let done = f.answer.is_done();
+            let answer = if done { Answer::Timeout } else { f.answer };
+            Finished { answer, ..f }
         }
         Err(answer) => Finished {
             machine: m,

@@ -29,7 +29,7 @@ unfolding settled_of blocked_of
 returns-in-Err c =
     let e = c.transfer_user.ensures in
     let r = block_refuses _ _ _ _ (sym (ap (λ x. x.0) e) ∙ c.in-Err.is) in
-    turned_refused _ _ _ _ _ _ _ (turned (goal.at.returns-in-Err c).After-turn) c.in-Block.is (rw (← e, c.in-Err.is)) r.0 r.1
+    rw c.refuse.ensures (turned_refused _ _ _ _ _ _ _ (turned (goal.at.returns-in-Err c).After-turn) c.in-Block.is (rw (← e, c.in-Err.is) refl) r.0 r.1)
 
 pub returns-in-Call : goal.returns-in-Call
 unfolding settled_of
@@ -41,7 +41,7 @@ unfolding settled_of
 returns-in-Stop c =
     let t = turned (goal.at.returns-in-Stop c).After-turn in
     let r = stop_refuses _ _ _ _ _ _ _ t _ c.in-Stop.is in
-    turned_refused _ _ _ _ _ _ _ t c.in-Stop.is refl r.0 r.1
+    rw c.refuse-in-Stop.ensures (turned_refused _ _ _ _ _ _ _ t c.in-Stop.is refl r.0 r.1)
 
 pub loop-k-preserved : goal.loop-k-preserved
 unfolding settled_of blocked_of
