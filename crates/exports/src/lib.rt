@@ -5,7 +5,7 @@ ghost use Rattle.std.specs.Prelude.{◌≡◌, length};
 ghost use Rattle.exports.specs.Steps.{written_state, left_by_step, left_by_run, step_call_of, step_opcode_call_of, run_call_of};
 ghost use Rattle.exports.specs.Calls.{halves, operand_halves, pack_call_of, unpack_call_of, shift_immediate_call_of, shift_register_call_of};
 
-use cpu::Machine;
+use cpu::{Machine, Report};
 use engine::{Finished, Stepped};
 use shifter::Operand;
 
@@ -21,8 +21,10 @@ pub fn tholungdek_pack(word: u32, ge: u32) -> u64
 {
     let mut s = psr::unpack(word);
     s.ge = state::narrow_ge(ge);
-    let p = psr::pack(s);
-    join_halves(p.answer, p.word)
+    match psr::pack(s) {
+        Ok(word) => join_halves(0, word),
+        Err(_) => join_halves(8, 0),
+    }
 }
 
 #[tactic(auto, unfolding(crate::specs::Calls::unpack_call_of))]
@@ -30,15 +32,14 @@ pub fn tholungdek_unpack(word: u32) -> u64
     ensures { result ≡ unpack_call_of word }
 {
     let s = psr::unpack(word);
-    let p = psr::pack(s);
-    join_halves(s.ge as u32, p.word)
+    join_halves(u32::from(s.ge), psr::pack_or_zero(s))
 }
 
 // The carry out above the value.
 fn join_operand(o: Operand) -> u64
     ensures { result ≡ operand_halves o }
 {
-    join_halves(bits::bit_of(o.carry), o.value)
+    join_halves(u32::from(o.carry), o.value)
 }
 
 #[tactic(auto, unfolding(crate::specs::Calls::shift_immediate_call_of))]
@@ -70,8 +71,8 @@ fn leave_step(s: Stepped, bytes: &mut [u8; 216], answer: &mut [u8; 12]) -> u32
     ensures { (result, bytes.new, answer.new) ≡ left_by_step s bytes.old }
 {
     let a = s.answer;
-    write_state(bytes, s.machine, cpu::is_done(a) || cpu::is_call(a));
-    state::write_report(answer, cpu::report_answer(a));
+    write_state(bytes, s.machine, a.is_done() || a.is_call());
+    state::write_report(answer, Report::from(a));
     1
 }
 
@@ -80,7 +81,7 @@ fn leave_run(f: Finished, bytes: &mut [u8; 216], answer: &mut [u8; 16]) -> u32
     ensures { (result, bytes.new, answer.new) ≡ left_by_run f bytes.old }
 {
     write_state(bytes, f.machine, 0 < f.count);
-    state::write_counted(answer, cpu::report_answer(f.answer), f.count);
+    state::write_counted(answer, Report::from(f.answer), f.count);
     1
 }
 

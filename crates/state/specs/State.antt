@@ -1,16 +1,14 @@
 -- The machine as 54 little-endian words, 216 bytes, and back; an answer as three words, or four.
-use Rattle.std.specs.Prelude.{List, [], ◌∷◌, ◌++◌, map, ℕ, zero, suc, ◌+◌, ◌*◌, get_or, ◌==◌}
+use Rattle.std.specs.Prelude.{Option, Some, None, List, [], ◌∷◌, ◌++◌, map, ℕ, zero, suc, ◌+◌, ◌*◌, get_or, ◌==◌}
 use Rattle.bits.specs.Cases.{when◌then◌else◌, ◌≤?◌}
 use Rattle.bits.specs.Words.{lanes_of}
 use Rattle.psr.specs.declared.Status.{Status}
-use Rattle.psr.specs.Status.{status_of, packed_of}
+use Rattle.psr.specs.Status.{status_of, packed_word_of}
 use Rattle.psr.specs.With.{with_ge}
 use Rattle.memory.specs.Bytes.{word_at}
 use Rattle.cpu.specs.Answers.{no_status}
 use Rattle.cpu.specs.declared.Machine.{Machine}
 use Rattle.cpu.specs.declared.Report.{Report}
-use Rattle.cpu.specs.declared.Tag.{Tag}
-use Rattle.cpu.specs.declared.Tag.TheVariants.{None, At}
 
 -- word i of the bytes, and n words from word i on
 abbrev pub word : List ℕ → ℕ → ℕ
@@ -34,8 +32,8 @@ abbrev pub record_at : List ℕ → ℕ → Status
 record_at l i = with_ge (status_of (word l i)) (ge_byte_of (word l (i + 7)))
 
 -- the tag: word 52 says whether there is one, word 53 is its address
-unfoldable pub tag_of : List ℕ → Tag
-tag_of l = when word l 52 == 0 then None else At (word l 53)
+unfoldable pub tag_of : List ℕ → Option ℕ
+tag_of l = when word l 52 == 0 then None else Some (word l 53)
 
 -- the way in
 unfoldable pub state_of : List ℕ → Machine
@@ -67,16 +65,13 @@ records_of m =
     ∷ banked_record_of m 4
     ∷ []
 
--- the word of a record, 0 where GE exceeds 15, and its GE
-abbrev pub packed_word_of : Status → ℕ
-packed_word_of s = (packed_of s).word
-
+-- the GE of a record, beside its packed word
 abbrev pub ge_number_of : Status → ℕ
 ge_number_of s = s.ge
 
-abbrev pub tag_words_of : Tag → List ℕ
+abbrev pub tag_words_of : Option ℕ → List ℕ
 tag_words_of None = 0 ∷ 0 ∷ []
-tag_words_of (At a) = 1 ∷ a ∷ []
+tag_words_of (Some a) = 1 ∷ a ∷ []
 
 -- the way out
 unfoldable pub state_words_of : Machine → List ℕ

@@ -1,8 +1,6 @@
 -- What holds of every machine that the code makes: its arrays have their lengths, and its words are words.
-use Rattle.std.specs.Prelude.{◌≡◌, List, ℕ, ◌^◌, ◌<◌, length, get_or}
+use Rattle.std.specs.Prelude.{Option, Some, None, ◌≡◌, List, ℕ, ◌^◌, ◌<◌, length, get_or}
 use Rattle.cpu.specs.declared.Machine.{Machine}
-use Rattle.cpu.specs.declared.Tag.{Tag}
-use Rattle.cpu.specs.declared.Tag.TheVariants.{None, At}
 
 -- every number of the list is a word
 abbrev pub Fits : List ℕ → Type 0
@@ -14,9 +12,9 @@ pub record Words (n : ℕ) (l : List ℕ) : Type 0 where
   pub fits : Fits l
 
 -- the address of a tag is a word
-abbrev pub TagFits : Tag → Type 0
+abbrev pub TagFits : Option ℕ → Type 0
 TagFits None = Unit {0}
-TagFits (At a) = a < 2 ^ 32
+TagFits (Some a) = a < 2 ^ 32
 
 pub record Valid (m : Machine) : Type 0 where
   pub regs : Words 16 m.regs

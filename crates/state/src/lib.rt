@@ -2,11 +2,12 @@
 #![tactic(auto)]
 
 ghost use Rattle.std.specs.Prelude.{◌≡◌, map, ◌+◌, ◌*◌, ◌<◌, ◌≤◌, length};
-ghost use Rattle.state.specs.State.{ge_byte_of, word, words_from, record_at, tag_of, state_of, records_of, packed_word_of, ge_number_of, tag_words_of, state_bytes_of, bytes_of, report_bytes_of, counted_bytes_of};
+ghost use Rattle.psr.specs.Status.{packed_word_of};
+ghost use Rattle.state.specs.State.{ge_byte_of, word, words_from, record_at, tag_of, state_of, records_of, ge_number_of, tag_words_of, state_bytes_of, bytes_of, report_bytes_of, counted_bytes_of};
 ghost use Rattle.state.specs.Laws.Words.{placed};
 ghost use Rattle.state.specs.Laws.Parts.{front_placed, back_placed};
 
-use cpu::{Machine, Report, Tag};
+use cpu::{Machine, Report};
 use psr::Status;
 use std::array;
 
@@ -49,12 +50,12 @@ fn read_saved(bytes: &[u8; 216]) -> [Status; 5]
 }
 
 #[tactic(auto, using(bits::specs::Cases::cases), unfolding(crate::specs::State::tag_of))]
-fn read_tag(bytes: &[u8; 216]) -> Tag
+fn read_tag(bytes: &[u8; 216]) -> Option<u32>
     ensures { result ≡ tag_of bytes.now }
 {
     match read_word(bytes, 52) {
-        0 => Tag::None,
-        _ => Tag::At(read_word(bytes, 53)),
+        0 => None,
+        _ => Some(read_word(bytes, 53)),
     }
 }
 
@@ -85,13 +86,6 @@ fn write_words(bytes: &mut [u8], from: u32, values: &[u32])
     }
 }
 
-fn pack_word(s: Status) -> u32
-    ensures { result ≡ packed_word_of s }
-{
-    let p = psr::pack(s);
-    p.word
-}
-
 fn ge_word(s: Status) -> u32
     ensures { result ≡ ge_number_of s }
 {
@@ -108,7 +102,7 @@ fn records(m: Machine) -> [Status; 7]
 fn pack_words(m: Machine) -> [u32; 7]
     ensures { result ≡ map packed_word_of (records_of m) }
 {
-    records(m).map(pack_word)
+    records(m).map(psr::pack_or_zero)
 }
 
 fn ge_words(m: Machine) -> [u32; 7]
@@ -117,12 +111,12 @@ fn ge_words(m: Machine) -> [u32; 7]
     records(m).map(ge_word)
 }
 
-fn tag_words(tag: Tag) -> [u32; 2]
+fn tag_words(tag: Option<u32>) -> [u32; 2]
     ensures { result ≡ tag_words_of tag }
 {
     match tag {
-        Tag::None => [0, 0],
-        Tag::At(at) => [1, at],
+        None => [0, 0],
+        Some(at) => [1, at],
     }
 }
 

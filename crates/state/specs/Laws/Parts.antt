@@ -1,13 +1,12 @@
 -- The parts of the way out, joined.
-use Rattle.std.specs.Prelude.{◌≡◌, refl, length}
+use Rattle.std.specs.Prelude.{Option, Some, None, ◌≡◌, refl, length}
 use mathlib.Core.List.{List, ◌++◌, map}
 use Prim.Native.Nat.{ℕ}
 use Rattle.std.proofs.Common.{arith}
 use Rattle.std.proofs.Math.ListN.{length-append}
 use Rattle.cpu.specs.declared.Machine.{Machine}
-use Rattle.cpu.specs.declared.Tag.{Tag}
-use Rattle.cpu.specs.declared.Tag.TheVariants.{None, At}
-use Rattle.state.specs.State.{bytes_of, records_of, packed_word_of, ge_number_of, tag_words_of, state_words_of}
+use Rattle.psr.specs.Status.{packed_word_of}
+use Rattle.state.specs.State.{bytes_of, records_of, ge_number_of, tag_words_of, state_words_of}
 use Rattle.state.specs.Laws.Words.{placed, placed_join, placed_all}
 
 -- the first thirty words placed, and the others behind them
@@ -24,9 +23,9 @@ pub record Sized (m : Machine) : Type 0 where
   pub fiq : length m.fiq ≡ 5
   pub user : length m.user ≡ 5
 
-length_tag : (t : Tag) → length (tag_words_of t) ≡ 2
+length_tag : (t : Option ℕ) → length (tag_words_of t) ≡ 2
 length_tag None = refl
-length_tag (At a) = refl
+length_tag (Some a) = refl
 
 module _ (m : Machine) (s : Sized m) where
   pub length_words : length (state_words_of m) ≡ 54

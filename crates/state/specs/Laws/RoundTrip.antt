@@ -1,5 +1,6 @@
 -- A machine written and read again is the same machine, where no GE exceeds 15; a machine read is valid.
-use Rattle.std.specs.Prelude.{◌≡◌, false, eqb, ltb, take}
+use Rattle.std.specs.Result.{result_unwrap_or}
+use Rattle.std.specs.Prelude.{Result, Option, Some, None, ◌≡◌, false, eqb, ltb, take}
 use Rattle.std.proofs.Math.Path.{refl, sym, ap}
 use Rattle.std.proofs.Common.{◌∙◌, add-one, lit<, lit≤, drop-cons, drop-drop, drop_at, take_at, get_or-drop}
 use mathlib.Core.List.{List, [], ◌∷◌, ◌++◌, map, append_assoc}
@@ -10,9 +11,9 @@ use borrow.Author.Tests.{le-ltb, le-leb}
 use Rattle.bits.specs.Cases.{when◌then◌else◌, if_no, if_both}
 use Rattle.bits.specs.Laws.Words.{join_lanes}
 use Rattle.bits.specs.Laws.Bools.{bit_le}
-use Rattle.psr.specs.declared.Packed.{Packed}
+use Rattle.psr.specs.declared.GeTooLarge.{GeTooLarge}
 use Rattle.psr.specs.declared.Status.{Status}
-use Rattle.psr.specs.Status.{word_of, status_of, packed_of}
+use Rattle.psr.specs.Status.{word_of, status_of, packed_of, packed_word_of}
 use Rattle.psr.specs.With.{with_ge}
 use Rattle.psr.specs.Laws.Packing.{mode_lt, unpack_pack}
 use Rattle.memory.specs.Bytes.{word_at}
@@ -20,9 +21,7 @@ use Rattle.memory.specs.Laws.Bytes.{Bytes, word_lt}
 use Rattle.cpu.specs.Answers.{no_status, bad_of}
 use Rattle.cpu.specs.Laws.Fits.{AllFit, good_fits}
 use Rattle.cpu.specs.declared.Machine.{Machine}
-use Rattle.cpu.specs.declared.Tag.{Tag}
-use Rattle.cpu.specs.declared.Tag.TheVariants.{None, At}
-use Rattle.state.specs.State.{word, words_from, bytes_of, ge_byte_of, tag_of, state_of, banked_record_of, records_of, packed_word_of, ge_number_of, tag_words_of, state_words_of, state_bytes_of}
+use Rattle.state.specs.State.{word, words_from, bytes_of, ge_byte_of, tag_of, state_of, banked_record_of, records_of, ge_number_of, tag_words_of, state_words_of, state_bytes_of}
 use Rattle.state.specs.Valid.{Fits, Words, TagFits, Valid}
 use Rattle.state.specs.Laws.Words.{length_from}
 use Rattle.state.specs.Laws.Parts.{length_words}
@@ -63,13 +62,13 @@ fits_append [] ys f g i = g i
 fits_append (x ∷ xs) ys f g zero = f 0
 fits_append (x ∷ xs) ys f g (suc i) = fits_append xs ys (λ k. f (suc k)) g i
 
-fits_tag : (t : Tag) → TagFits t → Fits (tag_words_of t)
+fits_tag : (t : Option ℕ) → TagFits t → Fits (tag_words_of t)
 fits_tag None h zero = lit< tt
 fits_tag None h (suc zero) = lit< tt
 fits_tag None h (suc (suc i)) = lit< tt
-fits_tag (At a) h zero = lit< tt
-fits_tag (At a) h (suc zero) = h
-fits_tag (At a) h (suc (suc i)) = lit< tt
+fits_tag (Some a) h zero = lit< tt
+fits_tag (Some a) h (suc zero) = h
+fits_tag (Some a) h (suc (suc i)) = lit< tt
 
 -- a number of each record, where it is a word for each whose GE fits
 fits_map : (f : Status → ℕ) → ((s : Status) → s.ge ≤ 15 → f s < 2 ^ 32) → (l : List Status) → ((i : ℕ) → (get_or l i no_status).ge ≤ 15) → Fits (map f l)
@@ -81,7 +80,7 @@ fits_map f g (s ∷ l) h (suc i) = fits_map f g l (λ k. h (suc k)) i
 module _ (s : Status) (h : s.ge ≤ 15) where
   packed_is : packed_word_of s ≡ word_of s
   unfolding packed_of
-  packed_is = ap (λ (p : Packed). p.word) (if_no (ltb 15 s.ge) _ _ (le-ltb 15 s.ge h))
+  packed_is = ap (λ (p : Result ℕ GeTooLarge). result_unwrap_or p 0) (if_no (ltb 15 s.ge) _ _ (le-ltb 15 s.ge h))
 
   packed_lt : packed_word_of s < 2 ^ 32
   unfolding word_of
@@ -95,10 +94,10 @@ module _ (s : Status) (h : s.ge ≤ 15) where
       let k : s.ge ≤ 255 = omega arith in
       rw (p, q, packed_is, le-leb s.ge 255 k, unpack_pack s h)
 
-tag_back : (t : Tag) (a b : ℕ) → a ≡ get_or (tag_words_of t) 0 0 → b ≡ get_or (tag_words_of t) 1 0 → (when eqb a 0 then None else At b) ≡ t
+tag_back : (t : Option ℕ) (a b : ℕ) → a ≡ get_or (tag_words_of t) 0 0 → b ≡ get_or (tag_words_of t) 1 0 → (when eqb a 0 then None else Some b) ≡ t
 unfolding when◌then◌else◌
 tag_back None a b p q = rw p
-tag_back (At x) a b p q = rw (p, q)
+tag_back (Some x) a b p q = rw (p, q)
 
 five : (l : List Status) → length l ≡ 5
     → get_or l 0 no_status ∷ get_or l 1 no_status ∷ get_or l 2 no_status ∷ get_or l 3 no_status ∷ get_or l 4 no_status ∷ [] ≡ l
