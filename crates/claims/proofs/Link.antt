@@ -52,7 +52,7 @@ module _ {k : ℕ} {s : State} {p : Pair} {w : ℕ} {t : State} (i : Link k s p 
     turned = rw (i.passed, data_processing i.encoding, same)
 
     abbrev settle : Outcome × List ℕ × List ℕ → Stepped × List ℕ
-    settle x = settled_of x.0.kind (with_regs m x.1) (next_of m) i.op x.0 x.2
+    settle x = settled_of x.0 (with_regs m x.1) (next_of m) i.op x.2
 
     after : (going t.machine, t.bytes) ≡ settle (beside (linked_of regs i.op r) s.bytes)
     unfolding executed_of

@@ -1,9 +1,8 @@
 -- Answer 7 (document 01, section 2): the accesses of each instruction in transfer order; 7 is given exactly when one of them has a byte outside memory, with the address of the first. The statement; Laws/Accesses.antt proves it.
-use Rattle.std.specs.Prelude.{◌≡◌, true, List, ◌↔◌, ℕ, length, ◌==◌}
+use Rattle.std.specs.Prelude.{◌≡◌, true, List, ◌↔◌, ℕ, length, ◌==◌, Option, Some}
 use Rattle.bits.specs.Cases.{when◌then◌else◌}
 use Rattle.bits.specs.Fields.{◌⟨◌⟩, ◌⟨◌‥◌⟩}
-use Rattle.memory.specs.declared.Found.{Found}
-use Rattle.memory.specs.declared.Found.TheVariants.{Outside}
+use Rattle.memory.specs.Bytes.{bytes_of}
 use Rattle.memory.specs.Plans.{outside_of}
 use Rattle.decode.specs.declared.Family.{Family}
 use Rattle.decode.specs.declared.Family.TheVariants.{DataProcessing, MultiplyShort, MultiplyLong, Halfword, Saturating, Swap, Exclusive, Extra, StatusMove, BranchExchange, CountZeros, Breakpoint, Single, Media, Block, Branch, Coprocessor, CoprocessorMove, Supervisor, Undefined, BranchLinkExchange, ClearExclusive, ChangeState, Preload}
@@ -11,14 +10,15 @@ use Rattle.decode.specs.Families.{family_of}
 use Rattle.cpu.specs.declared.Machine.{Machine}
 use Rattle.cpu.specs.declared.Answer.{Answer}
 use Rattle.cpu.specs.declared.Answer.TheVariants as answer
-use Rattle.transfer.specs.Transfers.{base_of, moved_of, address_of}
-use Rattle.loadstore.specs.Single.{rd_of, offset_of, width_of}
+use Rattle.transfer.specs.Transfers.{byte_or_word_of, base_of, moved_of, address_of}
+use Rattle.loadstore.specs.Single.{rd_of, offset_of}
 use Rattle.loadstore.specs.Extra.{extra_offset_of}
 use Rattle.exclusive.specs.Exclusive as exclusive
 use Rattle.block.specs.Block.{plan_of, count_of}
-use Rattle.arm.specs.Turn.{Seen, is_tagged, tag_address}
+use Rattle.arm.specs.declared.Seen.{Seen}
+use Rattle.arm.specs.Turn.{seen_of}
 use Rattle.claims.specs.Demand1.{number_of, passes}
-use Rattle.claims.specs.Demand2.{lent, seen_of}
+use Rattle.claims.specs.Demand2.{lent}
 
 -- accesses one behind the other: the first address, the width of each in bytes, and how many
 pub record Accesses : Type 0 where
@@ -33,12 +33,12 @@ abbrev pub none : Accesses
 none = accesses 0 0 0
 
 -- the first of them with a byte outside a memory of `len` bytes, where there is one
-abbrev pub outside : ℕ → Accesses → Found
+abbrev pub outside : ℕ → Accesses → Option ℕ
 outside len a = outside_of len a.at a.width a.count
 
 -- LDR, LDRB, STR, STRB: a word or a byte
 abbrev pub single_reach : List ℕ → ℕ → Seen → Accesses
-single_reach regs op s = accesses (address_of regs op (moved_of regs op (offset_of regs op s.c))) (width_of op) 1
+single_reach regs op s = accesses (address_of regs op (moved_of regs op (offset_of regs op s.c))) (bytes_of (byte_or_word_of op)) 1
 
 -- LDRH, LDRSH, STRH a halfword, LDRSB a byte, LDRD and STRD two words; with Rd of r15 these two are Undefined
 unfoldable pub extra_reach : List ℕ → ℕ → Accesses
@@ -57,19 +57,19 @@ block_reach regs op = accesses (plan_of regs op).start 4 (count_of (plan_of regs
 
 -- SWP, SWPB: what is loaded is stored over
 abbrev pub swap_reach : List ℕ → ℕ → Accesses
-swap_reach regs op = accesses (base_of regs op) (exclusive.swap_width_of op) 1
+swap_reach regs op = accesses (base_of regs op) (bytes_of (byte_or_word_of op)) 1
 
 -- LDREX, STREX and their B, H, D forms: a store that fails makes no access
 unfoldable pub exclusive_reach : List ℕ → ℕ → Seen → Accesses
 exclusive_reach regs op s =
     when op ⟨ 20 ⟩ then
     (when exclusive.doubled op then (when op ⟨ 15 ‥ 12 ⟩ == 15 then none else accesses (base_of regs op) 4 2)
-    else accesses (base_of regs op) (exclusive.width_of op) 1)
+    else accesses (base_of regs op) (bytes_of (exclusive.width_of op)) 1)
     else when exclusive.doubled op then
     (when op ⟨ 3 ‥ 0 ⟩ == 15 then none
-    else when exclusive.succeeds regs op (is_tagged s.tag) (tag_address s.tag) then accesses (base_of regs op) 4 2
+    else when exclusive.succeeds regs op s.tag then accesses (base_of regs op) 4 2
     else none)
-    else when exclusive.succeeds regs op (is_tagged s.tag) (tag_address s.tag) then accesses (base_of regs op) (exclusive.width_of op) 1
+    else when exclusive.succeeds regs op s.tag then accesses (base_of regs op) (bytes_of (exclusive.width_of op)) 1
     else none
 
 -- by family; all others make none
@@ -100,10 +100,10 @@ reach_of ChangeState regs op s = none
 reach_of Preload regs op s = none
 
 -- of the instruction op in a machine
-abbrev pub found_by : Machine → ℕ → List ℕ → Found
+abbrev pub found_by : Machine → ℕ → List ℕ → Option ℕ
 found_by m op l = outside (length l) (reach_of (family_of op) (lent m) op (seen_of m))
 
 -- for an instruction that is reached: 7 exactly when its condition passes and an access lies outside, and the address is that of the first
 pub record Bounded (m : Machine) (op : ℕ) (l : List ℕ) (a : Answer) : Type 0 where
-  pub seven : (number_of a ≡ 7) ↔ ((passes m op ≡ true) × ((address : ℕ) × (found_by m op l ≡ Outside address)))
-  pub seven_value : (address : ℕ) → passes m op ≡ true → found_by m op l ≡ Outside address → a ≡ answer.Bus address
+  pub seven : (number_of a ≡ 7) ↔ ((passes m op ≡ true) × ((address : ℕ) × (found_by m op l ≡ Some address)))
+  pub seven_value : (address : ℕ) → passes m op ≡ true → found_by m op l ≡ Some address → a ≡ answer.Bus address

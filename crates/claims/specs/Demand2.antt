@@ -7,7 +7,8 @@ use Rattle.decode.specs.declared.Family.TheVariants as family
 use Rattle.decode.specs.Families.{family_of}
 use Rattle.cpu.specs.declared.Machine.{Machine}
 use Rattle.cpu.specs.declared.Outcome.{Outcome}
-use Rattle.cpu.specs.Outcomes.{moves, done_of, undefined_of}
+use Rattle.cpu.specs.declared.Outcome.TheVariants.{Moves}
+use Rattle.cpu.specs.Outcomes.{done_of, undefined_of}
 use Rattle.cpu.specs.With.{with_regs}
 use Rattle.transfer.specs.Transfers.{beside}
 use Rattle.dataproc.specs.Dataproc.{logical, first_of, operand_of, result_of, placed_of, dataproc_of}
@@ -19,7 +20,8 @@ use Rattle.loadstore.specs.Single.{single_of}
 use Rattle.loadstore.specs.Extra.{extra_of}
 use Rattle.exclusive.specs.Exclusive.{swap_of, exclusive_of}
 use Rattle.block.specs.Block.{block_of}
-use Rattle.arm.specs.Turn.{Seen, seen, is_tagged, tag_address, effect_of}
+use Rattle.arm.specs.declared.Seen.{Seen}
+use Rattle.arm.specs.Turn.{seen_of, effect_of}
 use Rattle.engine.specs.declared.Stepped.{Stepped}
 use Rattle.engine.specs.Step.{going, settled_of, next_of}
 use Rattle.claims.specs.Demand1.{passes}
@@ -30,12 +32,9 @@ use Rattle.claims.specs.Demand1.{passes}
 abbrev pub lent : Machine → List ℕ
 lent m = set m.regs 15 ((next_of m + 8) % 2 ^ 32)
 
-abbrev pub seen_of : Machine → Seen
-seen_of m = seen m.cpsr.c m.cpsr.v m.cpsr.ge m.tag
-
 -- what its outcome then changes in the machine, by settled_of in engine/specs/Step.antt: flags, Q, GE, T, the tag, a return, a move of status words, a transfer with S, or nothing
 abbrev pub settled : Machine → ℕ → Outcome × List ℕ × List ℕ → Stepped × List ℕ
-settled m op x = settled_of x.0.kind (with_regs m x.1) (next_of m) op x.0 x.2
+settled m op x = settled_of x.0 (with_regs m x.1) (next_of m) op x.2
 
 pub record Composed (m : Machine) (op : ℕ) (l : List ℕ) (x : Stepped × List ℕ) : Type 0 where
   pub passed : passes m op ≡ true → x ≡ settled m op (effect_of (family_of op) (lent m) op (seen_of m) l)
@@ -75,13 +74,13 @@ pub record Defined (regs : List ℕ) (op : ℕ) (s : Seen) (l : List ℕ) : Type
   -- SWP SWPB; D4: bits 21-20, D7
   pub swap : effect_of family.Swap regs op s l ≡ swap_of regs op l
   -- LDREX STREX and their B, H, D forms; D5, D7
-  pub exclusive : effect_of family.Exclusive regs op s l ≡ exclusive_of regs op (is_tagged s.tag) (tag_address s.tag) l
+  pub exclusive : effect_of family.Exclusive regs op s l ≡ exclusive_of regs op s.tag l
   -- CLREX
   pub clear_exclusive : effect_of family.ClearExclusive regs op s l ≡ beside (clrex_of regs) l
   -- MRS MSR, by moves_of on the whole machine; D8
-  pub status_move : effect_of family.StatusMove regs op s l ≡ (moves, regs, l)
+  pub status_move : effect_of family.StatusMove regs op s l ≡ (Moves, regs, l)
   -- CPS SETEND, by moves_of; D2
-  pub change_state : effect_of family.ChangeState regs op s l ≡ (moves, regs, l)
+  pub change_state : effect_of family.ChangeState regs op s l ≡ (Moves, regs, l)
   -- PLD: a hint
   pub preload : effect_of family.Preload regs op s l ≡ beside (done_of regs) l
   -- SWI; D9

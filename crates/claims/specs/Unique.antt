@@ -1,8 +1,8 @@
 -- No room for a second outcome (document 01, section 7): for each public call, two outcomes that meet its promise are the same.
-use Rattle.std.specs.Prelude.{◌≡◌, Bool, List, ℕ}
+use Rattle.std.specs.Prelude.{◌≡◌, Bool, List, ℕ, Result}
 use Rattle.std.proofs.Common.{sym, ◌∙◌}
 use Rattle.psr.specs.declared.Status.{Status}
-use Rattle.psr.specs.declared.Packed.{Packed}
+use Rattle.psr.specs.declared.GeTooLarge.{GeTooLarge}
 use Rattle.psr.specs.Status.{Packs, Unpacks}
 use Rattle.shifter.specs.declared.Operand.{Operand}
 use Rattle.shifter.specs.Shifts.{ShiftsByImmediate, ShiftsByRegister}
@@ -17,7 +17,7 @@ use Rattle.exports.specs.Steps.{Left, step_call_of, step_opcode_call_of, run_cal
 same : {X : Type 0} {value r t : X} → r ≡ value → t ≡ value → r ≡ t
 same p q = p ∙ sym q
 
-pub packing : (s : Status) (r t : Packed) → Packs s r → Packs s t → r ≡ t
+pub packing : (s : Status) (r t : Result ℕ GeTooLarge) → Packs s r → Packs s t → r ≡ t
 packing s r t p q = same p q
 
 pub unpacking : (w : ℕ) (r t : Status) → Unpacks w r → Unpacks w t → r ≡ t

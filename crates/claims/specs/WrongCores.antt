@@ -1,5 +1,5 @@
 -- The wrong cores of document 01, section 7: none of them keeps the promise of a step, or of a run.
-use Rattle.std.specs.Prelude.{◌≡◌, refl, false, List, [], ◌∷◌, ◌≢◌, ℕ, zero, suc, ◌+◌, ◌%◌, ◌^◌, get_or, set}
+use Rattle.std.specs.Prelude.{◌≡◌, refl, false, List, [], ◌∷◌, ◌≢◌, ℕ, zero, suc, ◌+◌, ◌%◌, ◌^◌, get_or, set, None}
 use Rattle.std.proofs.Common.{sym, ap, ◌∙◌, arith}
 use Rattle.bits.specs.Cases.{when◌then◌else◌}
 use Rattle.bits.specs.Fields.{bit_of}
@@ -11,7 +11,6 @@ use Rattle.memory.specs.Bytes.{word_at}
 use Rattle.decode.specs.Families.{immediate_space_of, conditional_of, family_of}
 use Rattle.cpu.specs.declared.Machine.{Machine}
 use Rattle.cpu.specs.declared.Answer.TheVariants.{Undefined, Thumb, Fetch, Timeout}
-use Rattle.cpu.specs.declared.Tag.TheVariants.{None}
 use Rattle.cpu.specs.Answers.{no_status, bad_of, is_done, is_call}
 use Rattle.cpu.specs.Outcomes.{landed_of}
 use Rattle.cpu.specs.With.{with_regs}

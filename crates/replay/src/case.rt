@@ -138,7 +138,7 @@ fn judge_call(
     let m = state::read_state(&scene.state);
     let f = take_call(head, m, scene.memory);
     state::write_state(&mut scene.state, f.machine);
-    let found = cpu::report_answer(f.answer);
+    let found = Report::from(f.answer);
     judge::first_of(
         judge::judge_answer(found, f.count, listed.report, listed.count),
         judge::judge_state(&scene.state, &after.state),

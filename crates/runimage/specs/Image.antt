@@ -1,11 +1,10 @@
 -- The program runimage (document 01, section 8): where a run starts, and the numbers that are shown of it.
-use Rattle.std.specs.Prelude.{◌≡◌, false, ◌||◌, List, ℕ, replicate, ◌==◌}
+use Rattle.std.specs.Prelude.{None, ◌≡◌, false, ◌||◌, List, ℕ, replicate, ◌==◌}
 use Rattle.bits.specs.Cases.{when◌then◌else◌}
 use Rattle.psr.specs.declared.Status.{Status}
 use Rattle.psr.specs.declared.Mode.TheVariants.{System}
-use Rattle.psr.specs.Status.{packed_of}
+use Rattle.psr.specs.Status.{packed_word_of}
 use Rattle.cpu.specs.declared.Machine.{Machine}
-use Rattle.cpu.specs.declared.Tag.TheVariants.{None}
 use Rattle.cpu.specs.declared.Answer.{Answer}
 use Rattle.cpu.specs.declared.Report.{Report}
 use Rattle.cpu.specs.Answers.{reported}
@@ -47,7 +46,7 @@ page_of f =
       shown = shown_of f.answer;
       steps = f.count;
       regs = f.machine.regs;
-      cpsr = (packed_of f.machine.cpsr).word;
+      cpsr = packed_word_of f.machine.cpsr;
     }
 
 -- the page of a run of at most 10,000 steps over these bytes

@@ -2,7 +2,7 @@
 ghost use Rattle.std.specs.Prelude.{◌≡◌};
 ghost use Rattle.runimage.specs.Image.{default_status, initial_of, shown_from, page_of, Shows};
 
-use cpu::{Machine, Report, Tag};
+use cpu::{Machine, Report};
 use engine::Finished;
 use psr::{Mode, Status};
 
@@ -47,7 +47,7 @@ fn start_machine() -> Machine
         saved: [s, s, s, s, s],
         fiq: [0; 5],
         user: [0; 5],
-        tag: Tag::None,
+        tag: None,
     }
 }
 
@@ -65,16 +65,13 @@ impl From<Finished> for Page {
     ghost from_gives = { λ f page. page ≡ page_of f };
 
     fn from(f: Finished) -> Page {
-        let machine = f.machine;
-        let regs = machine.regs;
-        let report = cpu::report_answer(f.answer);
-        let packed = psr::pack(machine.cpsr);
+        let report = Report::from(f.answer);
         Page {
             exit: report.number,
             shown: show_value(report),
             steps: f.count,
-            regs,
-            cpsr: packed.word,
+            regs: f.machine.regs,
+            cpsr: psr::pack_or_zero(f.machine.cpsr),
         }
     }
 }

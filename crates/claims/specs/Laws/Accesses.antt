@@ -1,11 +1,9 @@
 -- Answer 7 is given exactly when an access of the instruction lies outside.
-use Rattle.std.specs.Prelude.{◌≡◌, true, false, List, [], ◌∷◌, ◌≢◌, ℕ, length}
+use Rattle.std.specs.Prelude.{◌≡◌, true, false, List, [], ◌∷◌, ◌≢◌, ℕ, length, None, Option, Some, Result}
 use Rattle.std.proofs.Math.Path.{refl}
 use Rattle.std.proofs.Common.{sym, ap, subst, ◌∙◌}
 use Rattle.std.proofs.lemmas.Bool.{false≢true}
-use Rattle.bits.specs.Cases.{when◌then◌else◌, if_both}
-use Rattle.memory.specs.declared.Found.{Found}
-use Rattle.memory.specs.declared.Found.TheVariants.{Inside, Outside}
+use Rattle.bits.specs.Cases.{if_both}
 use Rattle.memory.specs.Plans.{accesses_of, first_out}
 use Rattle.decode.specs.declared.Family.{Family}
 use Rattle.decode.specs.declared.Family.TheVariants as family
@@ -21,28 +19,29 @@ use Rattle.loadstore.specs.Extra.{extra_loads_of, extra_at, extra_of}
 use Rattle.exclusive.specs.Exclusive.{swap_of, ldrex_of, ldrexd_of, strex_of, strexd_of, exclusive_of}
 use Rattle.block.specs.Block.{plan_of, store_of, continued_of, load_of, block_of}
 use Rattle.block.specs.UserBlock.{user_moved_of, user_guarded_of, user_block_of}
-use Rattle.arm.specs.Turn.{Seen, is_tagged, tag_address, effect_of}
+use Rattle.arm.specs.declared.Seen.{Seen}
+use Rattle.arm.specs.Turn.{seen_of, effect_of}
 use Rattle.engine.specs.declared.Stepped.{Stepped}
 use Rattle.engine.specs.Step.{settled_of, blocked_of, next_of, executed_of}
 use Rattle.claims.specs.Laws.Choices.{so, if_pair}
 use Rattle.claims.specs.Demand1.{number_of, among, numbers_of, passes}
-use Rattle.claims.specs.Demand2.{lent, seen_of, settled}
+use Rattle.claims.specs.Demand2.{lent, settled}
 use Rattle.claims.specs.Accesses.{Accesses, none, outside, extra_reach, exclusive_reach, reach_of, found_by, Bounded}
 use Rattle.claims.specs.Laws.Families.{allows, told_effect, landed, exchanged}
 use Rattle.claims.specs.Laws.Composition.{executed_passed, executed_failed}
 use Rattle.claims.specs.Laws.Instructions.{wrong, told_settled}
 
 -- what an answer is by the first access outside
-abbrev Says : Found → Answer → Type 0
-Says Inside a = number_of a ≢ 7
-Says (Outside address) a = a ≡ answer.Bus address
+abbrev Says : Option ℕ → Answer → Type 0
+Says None a = number_of a ≢ 7
+Says (Some address) a = a ≡ answer.Bus address
 
 -- numbers of outcomes that are no 7
 abbrev calm : List ℕ
 calm = 0 ∷ 1 ∷ 2 ∷ 3 ∷ 4 ∷ 11 ∷ []
 
 abbrev Calm : Outcome × List ℕ × List ℕ → Type 0
-Calm x = allows x.0.kind x.0.answer calm ≡ true
+Calm x = allows x.0 calm ≡ true
 
 module _ (m : Machine) (op : ℕ) (l : List ℕ) where
   abbrev answer_of : Outcome × List ℕ × List ℕ → Answer
@@ -51,11 +50,11 @@ module _ (m : Machine) (op : ℕ) (l : List ℕ) where
   record Tells (p : Accesses) (x : Outcome × List ℕ × List ℕ) : Type 0 where
     says : Says (outside (length l) p) (answer_of x)
 
-  no_seven : (ns : List ℕ) (x : Outcome × List ℕ × List ℕ) → allows x.0.kind x.0.answer ns ≡ true → among 7 ns ≡ false → number_of (answer_of x) ≢ 7
-  no_seven ns x t f n = false≢true (sym f ∙ (rw n at (told_settled x.0.kind (with_regs m x.1) (next_of m) op x.0 x.2 ns t)))
+  no_seven : (ns : List ℕ) (x : Outcome × List ℕ × List ℕ) → allows x.0 ns ≡ true → among 7 ns ≡ false → number_of (answer_of x) ≢ 7
+  no_seven ns x t f n = false≢true (sym f ∙ (rw n at (told_settled x.0 (with_regs m x.1) (next_of m) op x.2 ns t)))
 
   -- no access
-  tells_none : (ns : List ℕ) (x : Outcome × List ℕ × List ℕ) → allows x.0.kind x.0.answer ns ≡ true → among 7 ns ≡ false → Tells none x
+  tells_none : (ns : List ℕ) (x : Outcome × List ℕ × List ℕ) → allows x.0 ns ≡ true → among 7 ns ≡ false → Tells none x
   unfolding accesses_of first_out
   tells_none ns x t f = record { says = no_seven ns x t f }
 
@@ -63,18 +62,19 @@ module _ (m : Machine) (op : ℕ) (l : List ℕ) where
   still x t = tells_none calm x t refl
 
   -- accesses that are guarded
-  guard_says : (f : Found) (regs : List ℕ) (done : Outcome × List ℕ × List ℕ) → Calm done → Says f (answer_of (guarded_of f regs l done))
+  guard_says : (f : Option ℕ) (regs : List ℕ) (done : Outcome × List ℕ × List ℕ) → Calm done → Says f (answer_of (guarded_of f regs l done))
   unfolding guarded_of settled_of
-  guard_says Inside regs done t = no_seven calm done t refl
-  guard_says (Outside address) regs done t = refl
+  guard_says None regs done t = no_seven calm done t refl
+  guard_says (Some address) regs done t = refl
 
   guarded : (p : Accesses) (regs : List ℕ) (done : Outcome × List ℕ × List ℕ) → Calm done → Tells p (guarded_of (outside (length l) p) regs l done)
   guarded p regs done t = record { says = guard_says (outside (length l) p) regs done t }
 
-  user_says : (f : Found) (at : ℕ) (m' : Machine) (done : Machine × List ℕ) → Says f (blocked_of at (user_guarded_of f m' l done)).0.answer
-  unfolding blocked_of user_guarded_of when◌then◌else◌
-  user_says Inside at m' done = wrong refl
-  user_says (Outside address) at m' done = refl
+  user_says : (f : Option ℕ) (m' : Machine) (at : ℕ) (done : Machine × List ℕ)
+      → (let x : Result Machine Answer × List ℕ = user_guarded_of f l done in Says f (blocked_of m' at x.0 x.1).0.answer)
+  unfolding blocked_of user_guarded_of
+  user_says None m' at done = wrong refl
+  user_says (Some address) m' at done = refl
 
   module _ (regs : List ℕ) (s : Seen) where
     abbrev Alone : Outcome × List ℕ → Type 0
@@ -98,7 +98,7 @@ module _ (m : Machine) (op : ℕ) (l : List ℕ) where
         (if_pair Tells _ (guarded _ regs _ refl)
         (if_pair Tells _ (still _ refl) (if_pair Tells _ (guarded _ regs _ (landed calm refl _ _ _)) (guarded _ regs _ refl)))))
 
-    tells_exclusive : Tells (exclusive_reach regs op s) (exclusive_of regs op (is_tagged s.tag) (tag_address s.tag) l)
+    tells_exclusive : Tells (exclusive_reach regs op s) (exclusive_of regs op s.tag l)
     unfolding exclusive_reach exclusive_of ldrex_of ldrexd_of strex_of strexd_of
     tells_exclusive =
         if_pair Tells _
@@ -112,7 +112,7 @@ module _ (m : Machine) (op : ℕ) (l : List ℕ) where
     unfolding block_of store_of load_of continued_of settled_of user_block_of
     tells_block =
         if_both (Tells (reach_of family.Block regs op s)) _
-        (record { says = user_says (outside (length l) (reach_of family.Block regs op s)) (next_of m) (with_regs m regs) (user_moved_of (plan_of regs op) (with_regs m regs) op l) })
+        (record { says = user_says (outside (length l) (reach_of family.Block regs op s)) (with_regs m regs) (next_of m) (user_moved_of (plan_of regs op) (with_regs m regs) op l) })
         (guarded _ regs _ (if_both Calm _ (if_both Alone _ (exchanged calm refl _ _) refl) refl))
 
     -- every other family
@@ -155,11 +155,11 @@ module _ (m : Machine) (op : ℕ) (l : List ℕ) where
       (tells (lent m) (seen_of m) (family_of op)).says
 
   -- what is found decides
-  found_outside : (f : Found) → Says f answered → number_of answered ≡ 7 → (address : ℕ) × (f ≡ Outside address)
-  found_outside Inside q n = absurd (q n)
-  found_outside (Outside address) q n = (address, refl)
+  found_outside : (f : Option ℕ) → Says f answered → number_of answered ≡ 7 → (address : ℕ) × (f ≡ Some address)
+  found_outside None q n = absurd (q n)
+  found_outside (Some address) q n = (address, refl)
 
-  bus : (address : ℕ) → passes m op ≡ true → found_by m op l ≡ Outside address → answered ≡ answer.Bus address
+  bus : (address : ℕ) → passes m op ≡ true → found_by m op l ≡ Some address → answered ≡ answer.Bus address
   bus address e f = rw f at (says_passed e)
 
   fails_not : passes m op ≡ false → number_of answered ≢ 7

@@ -5,19 +5,19 @@ use Rattle.std.proofs.Common.{◌∙◌}
 use Rattle.bits.specs.Cases.{if_yes, if_no}
 use Rattle.decode.specs.Families.{family_of}
 use Rattle.cpu.specs.declared.Machine.{Machine}
-use Rattle.cpu.specs.Outcomes.{nothing}
+use Rattle.cpu.specs.declared.Outcome.TheVariants.{Nothing}
 use Rattle.cpu.specs.With.{with_regs}
-use Rattle.arm.specs.Turn.{effect_of, turn_of}
+use Rattle.arm.specs.Turn.{seen_of, effect_of, turn_of}
 use Rattle.engine.specs.Step.{going, settled_of, next_of, turned_of, executed_of}
 use Rattle.claims.specs.Demand1.{passes}
-use Rattle.claims.specs.Demand2.{lent, seen_of, settled}
+use Rattle.claims.specs.Demand2.{lent, settled}
 
 module _ (m : Machine) (op : ℕ) (l : List ℕ) where
   turned_passed : passes m op ≡ true → turned_of m op l ≡ effect_of (family_of op) (lent m) op (seen_of m) l
   unfolding turn_of
   turned_passed e = if_yes _ _ _ e
 
-  turned_failed : passes m op ≡ false → turned_of m op l ≡ (nothing, set m.regs 15 ((next_of m + 4) % 2 ^ 32), l)
+  turned_failed : passes m op ≡ false → turned_of m op l ≡ (Nothing, set m.regs 15 ((next_of m + 4) % 2 ^ 32), l)
   unfolding turn_of
   turned_failed e = if_no _ _ _ e
 

@@ -5,7 +5,8 @@ use Rattle.bits.specs.Cases.{when◌then◌else◌}
 use Rattle.memory.specs.Bytes.{word_at}
 use Rattle.cpu.specs.declared.Machine.{Machine}
 use Rattle.dataproc.specs.Dataproc.{result_of, dataproc_of}
-use Rattle.arm.specs.Turn.{Seen, effect_of}
+use Rattle.arm.specs.declared.Seen.{Seen}
+use Rattle.arm.specs.Turn.{effect_of}
 use Rattle.engine.specs.declared.Stepped.{Stepped}
 use Rattle.engine.specs.Step.{next_of, executed_of}
 use Rattle.engine.specs.Promises.{Steps, StepsWith}

@@ -1,18 +1,15 @@
 -- Which numbers an instruction can answer: the table of Demand1 holds of every family.
-use Rattle.std.specs.Prelude.{◌≡◌, refl, Bool, true, ◌&&◌, List, [], ◌∷◌, ◌≢◌, ℕ, ◌==◌}
+use Rattle.std.specs.Prelude.{◌≡◌, refl, Bool, true, ◌&&◌, List, [], ◌∷◌, ◌≢◌, ℕ, ◌==◌, Option}
 use Rattle.std.proofs.Common.{inl, inr, eqb-true}
 use Rattle.bits.specs.Cases.{if_both}
 use Rattle.bits.specs.Fields.{◌⟨◌‥◌⟩}
 use Rattle.decode.specs.declared.Family.{Family}
 use Rattle.decode.specs.declared.Family.TheVariants as family
-use Rattle.cpu.specs.declared.Kind.{Kind}
-use Rattle.cpu.specs.declared.Kind.TheVariants as kind
-use Rattle.cpu.specs.declared.Answer.{Answer}
+use Rattle.cpu.specs.declared.Outcome.TheVariants as outcome
 use Rattle.cpu.specs.declared.Outcome.{Outcome}
 use Rattle.cpu.specs.Outcomes.{sticky, landed_of, exchanged_of}
 use Rattle.transfer.specs.Transfers.{guarded_of}
 use Rattle.transfer.specs.Laws.Guards.{guarded_both}
-use Rattle.memory.specs.declared.Found.{Found}
 use Rattle.dataproc.specs.Dataproc.{placed_of, dataproc_of}
 use Rattle.multiply.specs.Multiply.{settled_of, short_of, wide_settled_of, long_multiply_of, halfword_of, saturating_of}
 use Rattle.media.specs.Media.{media_of}
@@ -23,29 +20,30 @@ use Rattle.loadstore.specs.Single.{taken_of, single_at, single_of}
 use Rattle.loadstore.specs.Extra.{extra_loads_of, extra_at, extra_of}
 use Rattle.exclusive.specs.Exclusive.{swap_of, ldrex_of, ldrexd_of, strex_of, strexd_of, exclusive_of}
 use Rattle.block.specs.Block.{store_of, continued_of, load_of, block_of}
-use Rattle.arm.specs.Turn.{Seen, is_tagged, tag_address, effect_of}
+use Rattle.arm.specs.declared.Seen.{Seen}
+use Rattle.arm.specs.Turn.{effect_of}
 use Rattle.claims.specs.Laws.Choices.{if_by}
 use Rattle.claims.specs.Demand1.{number_of, among, numbers_of}
 
 -- the numbers that an outcome of a kind can come to are in a list
-abbrev pub allows : Kind → Answer → List ℕ → Bool
-allows kind.Nothing a ns = among 0 ns
-allows kind.Flags a ns = among 0 ns
-allows kind.Sticky a ns = among 0 ns
-allows kind.Lanes a ns = among 0 ns
-allows kind.Exchange a ns = among 0 ns
-allows kind.Tagged a ns = among 0 ns
-allows kind.Untagged a ns = among 0 ns
-allows kind.Return a ns = among 0 ns
-allows kind.Moves a ns = among 0 ns
-allows kind.Block a ns = among 0 ns && among 7 ns
-allows kind.Call a ns = among 1 ns
-allows kind.Stop a ns = among (number_of a) ns
+abbrev pub allows : Outcome → List ℕ → Bool
+allows outcome.Nothing ns = among 0 ns
+allows (outcome.Flags n z c v) ns = among 0 ns
+allows outcome.Sticky ns = among 0 ns
+allows (outcome.Lanes ge) ns = among 0 ns
+allows (outcome.Exchange t) ns = among 0 ns
+allows (outcome.Tagged a) ns = among 0 ns
+allows outcome.Untagged ns = among 0 ns
+allows (outcome.Return to) ns = among 0 ns
+allows outcome.Moves ns = among 0 ns
+allows outcome.Block ns = among 0 ns && among 7 ns
+allows (outcome.Call number) ns = among 1 ns
+allows (outcome.Stop answer) ns = among (number_of answer) ns
 
 -- families that can go on: 0 is in the list
 module _ (ns : List ℕ) (z : among 0 ns ≡ true) where
   abbrev Told : Outcome → Type 0
-  Told o = allows o.kind o.answer ns ≡ true
+  Told o = allows o ns ≡ true
 
   abbrev Alone : Outcome × List ℕ → Type 0
   Alone x = Told x.0
@@ -103,12 +101,12 @@ module _ (ns : List ℕ) (z : among 0 ns ≡ true) where
   told_media : (regs : List ℕ) (op ge : ℕ) → among 2 ns ≡ true → MediaLeft regs op (media_of regs op ge) → Alone (media_of regs op ge)
   told_media regs op ge two (inl p) = rw p z
   told_media regs op ge two (inr (inl p)) = rw p z
-  told_media regs op ge two (inr (inr (inl p))) = rw p.0 z
+  told_media regs op ge two (inr (inr (inl p))) = rw p.1 z
   told_media regs op ge two (inr (inr (inr p))) = rw p two
 
   -- transfers: 7 is in the list too
   module _ (seven : among 7 ns ≡ true) where
-    pub guarded : (f : Found) (regs l : List ℕ) (done : Outcome × List ℕ × List ℕ) → Whole done → Whole (guarded_of f regs l done)
+    pub guarded : (f : Option ℕ) (regs l : List ℕ) (done : Outcome × List ℕ × List ℕ) → Whole done → Whole (guarded_of f regs l done)
     guarded f regs l done = guarded_both Whole f regs l (λ address. seven)
 
     told_single : (regs : List ℕ) (op : ℕ) (c : Bool) (l : List ℕ) → Whole (single_of regs op c l)
@@ -134,9 +132,9 @@ module _ (ns : List ℕ) (z : among 0 ns ≡ true) where
         (if_both Whole _ (guarded _ regs l _ z)
         (if_both Whole _ two (if_both Whole _ (guarded _ regs l _ (landed _ _ _)) (guarded _ regs l _ z)))))
 
-    told_exclusive : (regs : List ℕ) (op : ℕ) (present : Bool) (tag : ℕ) (l : List ℕ) → among 2 ns ≡ true → Whole (exclusive_of regs op present tag l)
+    told_exclusive : (regs : List ℕ) (op : ℕ) (tag : Option ℕ) (l : List ℕ) → among 2 ns ≡ true → Whole (exclusive_of regs op tag l)
     unfolding exclusive_of ldrex_of ldrexd_of strex_of strexd_of
-    told_exclusive regs op present tag l two =
+    told_exclusive regs op tag l two =
         if_both Whole _
         (if_both Whole _ (if_both Whole _ two (guarded _ regs l _ z)) (guarded _ regs l _ z))
         (if_both Whole _
@@ -144,7 +142,7 @@ module _ (ns : List ℕ) (z : among 0 ns ≡ true) where
         (if_both Whole _ (guarded _ regs l _ z) (landed regs _ _)))
 
 pub told_effect : (f : Family) (regs : List ℕ) (op : ℕ) (s : Seen) (l : List ℕ)
-    → (let o = (effect_of f regs op s l).0 in allows o.kind o.answer (numbers_of f)) ≡ true
+    → (let o = (effect_of f regs op s l).0 in allows o (numbers_of f)) ≡ true
 unfolding effect_of branch_link_exchange_of clz_of swi_of bkpt_of coprocessor_of clrex_of
 told_effect family.DataProcessing regs op s l = told_dataproc _ refl regs op s.c s.v
 told_effect family.MultiplyShort regs op s l = told_short _ refl regs op s.c s.v
@@ -160,7 +158,7 @@ told_effect family.Single regs op s l = told_single _ refl refl regs op s.c l
 told_effect family.Extra regs op s l = told_extra _ refl refl regs op l refl (λ _. refl)
 told_effect family.Block regs op s l = told_block _ refl refl regs op l refl
 told_effect family.Swap regs op s l = told_swap _ refl refl regs op l
-told_effect family.Exclusive regs op s l = told_exclusive _ refl refl regs op (is_tagged s.tag) (tag_address s.tag) l refl
+told_effect family.Exclusive regs op s l = told_exclusive _ refl refl regs op s.tag l refl
 told_effect family.ClearExclusive regs op s l = refl
 told_effect family.StatusMove regs op s l = refl
 told_effect family.ChangeState regs op s l = refl
@@ -173,6 +171,6 @@ told_effect family.Undefined regs op s l = refl
 
 -- an extra transfer whose bits 6-5 are not both zero does not answer 11
 pub told_form : (regs : List ℕ) (op : ℕ) (s : Seen) (l : List ℕ) → op ⟨ 6 ‥ 5 ⟩ ≢ 0
-    → (let o = (effect_of family.Extra regs op s l).0 in allows o.kind o.answer (0 ∷ 2 ∷ 7 ∷ [])) ≡ true
+    → (let o = (effect_of family.Extra regs op s l).0 in allows o (0 ∷ 2 ∷ 7 ∷ [])) ≡ true
 unfolding effect_of
 told_form regs op s l n = told_extra (0 ∷ 2 ∷ 7 ∷ []) refl refl regs op l refl (λ e. absurd (n (eqb-true _ _ e)))

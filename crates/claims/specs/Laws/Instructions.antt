@@ -1,21 +1,17 @@
 -- What an instruction that is reached answers.
-use Rattle.std.specs.Prelude.{◌≡◌, refl, Bool, true, false, ◌&&◌, ◌||◌, ◌≢◌, ℕ, ◌+◌, ◌-◌, ◌*◌, ◌/◌, ◌%◌, ◌^◌, get_or, ◌==◌}
+use Rattle.std.specs.Prelude.{◌≡◌, refl, Bool, true, false, ◌&&◌, ◌||◌, ◌≢◌, ℕ, ◌+◌, ◌-◌, ◌*◌, ◌/◌, ◌%◌, ◌^◌, get_or, ◌==◌, None, Option, Some, Result}
 use Rattle.std.proofs.Common.{sym, subst, ◌∙◌, get_or-set_same, set-set, eqb-true, ne_eqb}
 use Rattle.std.proofs.Math.Path.{ap}
 use Rattle.std.proofs.lemmas.Bool.{false≢true, eqb-false}
 use mathlib.Core.List.{List, [], ◌∷◌}
 use native.Mathlib.Omega.{arith}
 use Rattle.std.proofs.Math.ListN.{set}
-use Rattle.bits.specs.Cases.{when◌then◌else◌}
 use Rattle.bits.specs.Fields.{◌⟨◌‥◌⟩}
-use Rattle.memory.specs.declared.Found.{Found}
-use Rattle.memory.specs.declared.Found.TheVariants.{Inside, Outside}
 use Rattle.decode.specs.declared.Family.{Family}
 use Rattle.decode.specs.declared.Family.TheVariants as family
 use Rattle.decode.specs.Families.{family_of}
 use Rattle.cpu.specs.declared.Machine.{Machine}
-use Rattle.cpu.specs.declared.Kind.{Kind}
-use Rattle.cpu.specs.declared.Kind.TheVariants as kind
+use Rattle.cpu.specs.declared.Outcome.TheVariants as outcome
 use Rattle.cpu.specs.declared.Answer.{Answer}
 use Rattle.cpu.specs.declared.Answer.TheVariants as answer
 use Rattle.cpu.specs.declared.Outcome.{Outcome}
@@ -24,12 +20,12 @@ use Rattle.cpu.specs.With.{with_regs}
 use Rattle.block.specs.UserBlock.{user_guarded_of, user_block_of}
 use Rattle.transfer.specs.Transfers.{beside}
 use Rattle.misc.specs.Stops.{swi_of, bkpt_of, coprocessor_of, coprocessor_move_of}
-use Rattle.arm.specs.Turn.{effect_of}
+use Rattle.arm.specs.Turn.{seen_of, effect_of}
 use Rattle.engine.specs.declared.Stepped.{Stepped}
 use Rattle.engine.specs.Step.{settled_of, blocked_of, next_of, executed_of}
 use Rattle.claims.specs.Laws.Choices.{both, so}
 use Rattle.claims.specs.Demand1.{number_of, among, numbers_of, passes, IsSwi, IsBkpt, IsCoprocessor, HasR15, Answers}
-use Rattle.claims.specs.Demand2.{lent, seen_of, settled}
+use Rattle.claims.specs.Demand2.{lent, settled}
 use Rattle.claims.specs.Laws.Families.{allows, told_effect, told_form}
 use Rattle.claims.specs.Laws.Encodings.{swi_is, swi_only, bkpt_only, coprocessor_only, form_only}
 use Rattle.claims.specs.Laws.Decoding.{tables}
@@ -43,27 +39,27 @@ wrong {a} {b} = eqb-false a b
 
 -- ---- an outcome settled answers a number that its kind allows
 
-told_user : (f : Found) (at : ℕ) (m : Machine) (l : List ℕ) (done : Machine × List ℕ) (ns : List ℕ) → among 0 ns ≡ true → among 7 ns ≡ true
-    → among (number_of (blocked_of at (user_guarded_of f m l done)).0.answer) ns ≡ true
-unfolding blocked_of user_guarded_of when◌then◌else◌
-told_user Inside at m l done ns z seven = z
-told_user (Outside address) at m l done ns z seven = seven
+told_user : (f : Option ℕ) (m : Machine) (at : ℕ) (l : List ℕ) (done : Machine × List ℕ) (ns : List ℕ) → among 0 ns ≡ true → among 7 ns ≡ true
+    → (let x : Result Machine Answer × List ℕ = user_guarded_of f l done in among (number_of (blocked_of m at x.0 x.1).0.answer) ns ≡ true)
+unfolding blocked_of user_guarded_of
+told_user None m at l done ns z seven = z
+told_user (Some address) m at l done ns z seven = seven
 
-pub told_settled : (q : Kind) (m : Machine) (at op : ℕ) (o : Outcome) (l : List ℕ) (ns : List ℕ) → allows q o.answer ns ≡ true
-    → among (number_of (settled_of q m at op o l).0.answer) ns ≡ true
+pub told_settled : (o : Outcome) (m : Machine) (at op : ℕ) (l : List ℕ) (ns : List ℕ) → allows o ns ≡ true
+    → among (number_of (settled_of o m at op l).0.answer) ns ≡ true
 unfolding settled_of user_block_of
-told_settled kind.Nothing m at op o l ns e = e
-told_settled kind.Flags m at op o l ns e = e
-told_settled kind.Sticky m at op o l ns e = e
-told_settled kind.Lanes m at op o l ns e = e
-told_settled kind.Exchange m at op o l ns e = e
-told_settled kind.Tagged m at op o l ns e = e
-told_settled kind.Untagged m at op o l ns e = e
-told_settled kind.Return m at op o l ns e = e
-told_settled kind.Moves m at op o l ns e = e
-told_settled kind.Block m at op o l ns e = let b = both _ _ e in told_user _ at m l _ ns b.0 b.1
-told_settled kind.Call m at op o l ns e = e
-told_settled kind.Stop m at op o l ns e = e
+told_settled outcome.Nothing m at op l ns e = e
+told_settled (outcome.Flags n z c v) m at op l ns e = e
+told_settled outcome.Sticky m at op l ns e = e
+told_settled (outcome.Lanes ge) m at op l ns e = e
+told_settled (outcome.Exchange t) m at op l ns e = e
+told_settled (outcome.Tagged a) m at op l ns e = e
+told_settled outcome.Untagged m at op l ns e = e
+told_settled (outcome.Return to) m at op l ns e = e
+told_settled outcome.Moves m at op l ns e = e
+told_settled outcome.Block m at op l ns e = let b = both _ _ e in told_user _ m at l _ ns b.0 b.1
+told_settled (outcome.Call number) m at op l ns e = e
+told_settled (outcome.Stop answer) m at op l ns e = e
 
 -- ---- lists of numbers
 
@@ -133,11 +129,11 @@ module _ (m : Machine) (op : ℕ) (l : List ℕ) where
   by_family f e q = executed_passed m op l e ∙ ap (λ (f : Family). settled m op (effect_of f (lent m) op (seen_of m) l)) q
 
   told : (f : Family) (ns : List ℕ) → passes m op ≡ true → family_of op ≡ f
-      → (let o = (effect_of f (lent m) op (seen_of m) l).0 in allows o.kind o.answer ns) ≡ true → among (number_of answered) ns ≡ true
+      → (let o = (effect_of f (lent m) op (seen_of m) l).0 in allows o ns) ≡ true → among (number_of answered) ns ≡ true
   told f ns e q t =
       let x = effect_of f (lent m) op (seen_of m) l in
       subst (λ (y : Stepped × List ℕ). among (number_of (answer_of y)) ns ≡ true) (sym (by_family f e q))
-      (told_settled x.0.kind (with_regs m x.1) (next_of m) op x.0 x.2 ns t)
+      (told_settled x.0 (with_regs m x.1) (next_of m) op x.2 ns t)
 
   passed : passes m op ≡ true → among (number_of answered) (numbers_of (family_of op)) ≡ true
   passed e = told (family_of op) (numbers_of (family_of op)) e refl (told_effect (family_of op) (lent m) op (seen_of m) l)

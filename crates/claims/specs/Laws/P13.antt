@@ -1,5 +1,5 @@
 -- Row P13 of document 01, section 8, as a chain that the machine takes: what demand 3 asks of a chain can be met.
-use Rattle.std.specs.Prelude.{◌≡◌, refl, Bool, true, false, ◌&&◌, List, [], ◌∷◌, ℕ, zero, suc, ◌^◌, replicate}
+use Rattle.std.specs.Prelude.{◌≡◌, refl, Bool, true, false, ◌&&◌, List, [], ◌∷◌, ℕ, zero, suc, ◌^◌, replicate, None}
 use Rattle.std.proofs.lemmas.Bool.{false≢true}
 use Rattle.std.proofs.Common.{ltb-true, lit<}
 use Rattle.bits.specs.Cases.{when◌then◌else◌, ◌<?◌}
@@ -12,7 +12,6 @@ use Rattle.shifter.specs.Shifts.{type_of, by_immediate_of, immediate_of}
 use Rattle.memory.specs.Bytes.{word_at}
 use Rattle.decode.specs.Families.{register_space_of, immediate_space_of, conditional_of, family_of}
 use Rattle.cpu.specs.declared.Answer.TheVariants.{Done}
-use Rattle.cpu.specs.declared.Tag.TheVariants.{None}
 use Rattle.cpu.specs.Answers.{bad_of, no_status}
 use Rattle.dataproc.specs.Dataproc.{read_of, operand_of, result_of, placed_of, dataproc_of}
 use Rattle.arm.specs.Turn.{effect_of, turn_of}

@@ -22,12 +22,13 @@ use Rattle.media.specs.Media.{coded, allocated, put_with, combined_of, in_parall
 use Rattle.media.specs.Laws.Codes.{allocated_is, unextended_is}
 use Rattle.loadstore.specs.Extra.{extra_loads_of, extra_at, extra_of}
 use Rattle.exclusive.specs.Exclusive.{ldrex_of, ldrexd_of, strex_of, strexd_of, exclusive_of}
-use Rattle.arm.specs.Turn.{Seen, is_tagged, tag_address, effect_of}
+use Rattle.arm.specs.declared.Seen.{Seen}
+use Rattle.arm.specs.Turn.{seen_of, effect_of}
 use Rattle.engine.specs.declared.Stepped.{Stepped}
 use Rattle.engine.specs.Step.{settled_of, next_of, executed_of}
 use Rattle.claims.specs.Laws.Choices.{so, if_pair, if_test, if_not}
 use Rattle.claims.specs.Demand1.{number_of, among, numbers_of, passes}
-use Rattle.claims.specs.Demand2.{lent, seen_of, settled}
+use Rattle.claims.specs.Demand2.{lent, settled}
 use Rattle.claims.specs.Undefined.{packing_undefined, media_undefined, extra_undefined, exclusive_undefined, undefined_by, is_undefined, Refused}
 use Rattle.claims.specs.Laws.Families.{allows, told_effect, told_sticky, landed, guarded}
 use Rattle.claims.specs.Laws.Composition.{executed_passed, executed_failed}
@@ -38,7 +39,7 @@ abbrev calm : List ℕ
 calm = 0 ∷ 1 ∷ 3 ∷ 4 ∷ 7 ∷ 11 ∷ []
 
 abbrev Calm : Outcome × List ℕ × List ℕ → Type 0
-Calm x = allows x.0.kind x.0.answer calm ≡ true
+Calm x = allows x.0 calm ≡ true
 
 module _ (m : Machine) (op : ℕ) (regs l : List ℕ) where
   abbrev answer_of : Outcome × List ℕ × List ℕ → Answer
@@ -51,9 +52,9 @@ module _ (m : Machine) (op : ℕ) (regs l : List ℕ) where
   record Tells (u : Bool) (x : Outcome × List ℕ × List ℕ) : Type 0 where
     says : Says u (answer_of x)
 
-  defined : (ns : List ℕ) (x : Outcome × List ℕ × List ℕ) → allows x.0.kind x.0.answer ns ≡ true → among 2 ns ≡ false → Tells false x
+  defined : (ns : List ℕ) (x : Outcome × List ℕ × List ℕ) → allows x.0 ns ≡ true → among 2 ns ≡ false → Tells false x
   defined ns x t f =
-      record { says = λ n. false≢true (sym f ∙ (rw n at (told_settled x.0.kind (with_regs m x.1) (next_of m) op x.0 x.2 ns t))) }
+      record { says = λ n. false≢true (sym f ∙ (rw n at (told_settled x.0 (with_regs m x.1) (next_of m) op x.2 ns t))) }
 
   still : (x : Outcome × List ℕ × List ℕ) → Calm x → Tells false x
   still x t = defined calm x t refl
@@ -152,9 +153,9 @@ module _ (m : Machine) (op : ℕ) (regs l : List ℕ) where
       (if_test Tells _ refused
       (still _ (if_both Calm _ (guarded calm refl refl _ regs l _ (landed calm refl _ _ _)) (guarded calm refl refl _ regs l _ refl))))))
 
-  in_exclusive : (present : Bool) (tag : ℕ) → Tells (exclusive_undefined op) (exclusive_of regs op present tag l)
+  in_exclusive : (tag : Option ℕ) → Tells (exclusive_undefined op) (exclusive_of regs op tag l)
   unfolding exclusive_undefined exclusive_of ldrex_of ldrexd_of strex_of strexd_of
-  in_exclusive present tag =
+  in_exclusive tag =
       if_pair Tells _
       (if_pair Tells _ (if_test Tells _ refused (still _ (guarded calm refl refl _ regs l _ refl))) (still _ (guarded calm refl refl _ regs l _ refl)))
       (if_pair Tells _
@@ -170,7 +171,7 @@ module _ (m : Machine) (op : ℕ) (regs l : List ℕ) where
   tells family.Undefined s = refused
   tells family.Media s = in_media s.ge
   tells family.Extra s = in_extra
-  tells family.Exclusive s = in_exclusive (is_tagged s.tag) (tag_address s.tag)
+  tells family.Exclusive s = in_exclusive s.tag
   tells family.DataProcessing s = plain family.DataProcessing s refl
   tells family.MultiplyShort s = plain family.MultiplyShort s refl
   tells family.MultiplyLong s = plain family.MultiplyLong s refl
