@@ -65,13 +65,15 @@ impl From<Finished> for Page {
     ghost from_gives = { λ f page. page ≡ page_of f };
 
     fn from(f: Finished) -> Page {
+        let machine = f.machine;
+        let regs = machine.regs;
         let report = Report::from(f.answer);
         Page {
             exit: report.number,
             shown: show_value(report),
             steps: f.count,
-            regs: f.machine.regs,
-            cpsr: psr::pack_or_zero(f.machine.cpsr),
+            regs,
+            cpsr: psr::pack_or_zero(machine.cpsr),
         }
     }
 }
