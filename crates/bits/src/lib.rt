@@ -39,31 +39,6 @@ pub fn bit(value: u32, n: u32) -> bool
     (value >> n) % 2 == 1
 }
 
-// A truth value as a bit.
-pub fn bit_of(b: bool) -> u32
-    ensures { (result ≡ bit_of b) × (result ≤ 1) }
-{
-    u32::from(b)
-}
-
-pub fn wrapping_add(a: u32, b: u32) -> u32
-    ensures { result ≡ (a + b) % 2 ^ 32 }
-{
-    a.wrapping_add(b)
-}
-
-pub fn wrapping_sub(a: u32, b: u32) -> u32
-    ensures { result ≡ (a + (2 ^ 32 - b)) % 2 ^ 32 }
-{
-    a.wrapping_sub(b)
-}
-
-pub fn wrapping_mul(a: u32, b: u32) -> u32
-    ensures { result ≡ a * b % 2 ^ 32 }
-{
-    a.wrapping_mul(b)
-}
-
 // The whole product of two words.
 pub fn widening_mul(a: u32, b: u32) -> u64
     ensures { (result ≡ a * b) × (result ≤ (2 ^ 32 - 1) * (2 ^ 32 - 1)) }
@@ -124,13 +99,6 @@ pub fn join(lanes: [u8; 4]) -> u32
     ensures { result ≡ joined_of lanes }
 {
     u32::from_le_bytes(lanes)
-}
-
-// Four bytes as a word, the lowest first.
-pub fn word_of(a: u8, b: u8, c: u8, d: u8) -> u32
-    ensures { result ≡ a + b * 2 ^ 8 + c * 2 ^ 16 + d * 2 ^ 24 }
-{
-    u32::from_le_bytes([a, b, c, d])
 }
 
 // REV.

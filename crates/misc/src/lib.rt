@@ -52,7 +52,7 @@ pub fn branch_exchange(regs: &mut [u32; 16], op: u32) -> Outcome
 pub fn branch_link_exchange(regs: &mut [u32; 16], op: u32) -> Outcome
     ensures { (result, regs.new) ≡ branch_link_exchange_of regs.old op }
 {
-    let to = find_target(regs, op).wrapping_add(bits::bit_of(op / 16777216 % 2 == 1) * 2);
+    let to = find_target(regs, op).wrapping_add(u32::from(op / 16777216 % 2 == 1) * 2);
     link(regs);
     regs[15] = to / 2 * 2;
     Outcome::Exchange(true)
