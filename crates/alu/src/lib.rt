@@ -1,5 +1,5 @@
 // Sums with carry and overflow, and saturation, on numbers alone.
-#![tactic(auto)]
+#![tactic(auto, using(bits::specs::Cases::cases))]
 
 ghost use Rattle.std.specs.Prelude.{◌≡◌, ◌<◌, ◌≤◌};
 ghost use Rattle.bits.specs.Laws.Signed.{lifted};
@@ -27,6 +27,7 @@ fn lift(x: u32) -> u64
     u64::from(x.wrapping_add(0x8000_0000))
 }
 
+#[tactic(auto, using(bits::specs::Cases::cases, crate::specs::Laws::Sums::adc_law))]
 pub fn adc_with_flags(a: u32, b: u32, c: bool) -> Sum
     ensures { result ≡ adc_of a b c }
 {
@@ -41,6 +42,7 @@ pub fn adc_with_flags(a: u32, b: u32, c: bool) -> Sum
 }
 
 // The difference and 2^32 - 1 more, so that a clear carry is one less.
+#[tactic(auto, using(bits::specs::Cases::cases, crate::specs::Laws::Sums::sbc_law))]
 pub fn sbc_with_flags(a: u32, b: u32, c: bool) -> Sum
     ensures { result ≡ sbc_of a b c }
 {
@@ -54,12 +56,14 @@ pub fn sbc_with_flags(a: u32, b: u32, c: bool) -> Sum
     }
 }
 
+#[tactic(auto, using(bits::specs::Cases::cases, crate::specs::Laws::Sums::add_adc))]
 pub fn add_with_flags(a: u32, b: u32) -> Sum
     ensures { result ≡ add_of a b }
 {
     adc_with_flags(a, b, false)
 }
 
+#[tactic(auto, using(bits::specs::Cases::cases, crate::specs::Laws::Sums::sub_sbc))]
 pub fn sub_with_flags(a: u32, b: u32) -> Sum
     ensures { result ≡ sub_of a b }
 {
@@ -67,6 +71,7 @@ pub fn sub_with_flags(a: u32, b: u32) -> Sum
 }
 
 // Not by `clamp`: that asks for low ≤ high, which each caller would have to prove.
+#[tactic(auto, using(bits::specs::Cases::cases, crate::specs::Laws::Saturation::below_low, crate::specs::Laws::Saturation::above_high, crate::specs::Laws::Saturation::between))]
 fn saturate(z: i64, low: i64, high: i64) -> Fitted
     ensures { result ≡ saturated_of low high z }
 {
@@ -88,6 +93,7 @@ fn saturate(z: i64, low: i64, high: i64) -> Fitted
     }
 }
 
+#[tactic(auto, using(bits::specs::Cases::cases), unfolding(crate::specs::Saturation::signed_sat_of))]
 pub fn signed_saturate(z: i64, width: u32) -> Fitted
     requires { (0 < width) × (width ≤ 32) }
     ensures { result ≡ signed_sat_of width z }
@@ -96,6 +102,7 @@ pub fn signed_saturate(z: i64, width: u32) -> Fitted
     saturate(z, 0 - top, top - 1)
 }
 
+#[tactic(auto, using(bits::specs::Cases::cases), unfolding(crate::specs::Saturation::unsigned_sat_of))]
 pub fn unsigned_saturate(z: i64, width: u32) -> Fitted
     requires { width < 32 }
     ensures { result ≡ unsigned_sat_of width z }

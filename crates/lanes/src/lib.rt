@@ -1,5 +1,5 @@
 // The arithmetic of the media instructions on numbers and on four byte lanes: parallel sums, selection, packing, extension, saturation.
-#![tactic(auto)]
+#![tactic(auto, using(bits::specs::Cases::cases))]
 
 ghost use Rattle.std.specs.Prelude.{◌≡◌, pos, ◌+ℤ◌, ◌+◌, ◌*◌, ◌%◌, ◌^◌, ◌<◌, ◌≤◌, IfSome};
 ghost use Rattle.bits.specs.Cases.{when◌then◌else◌};
@@ -58,6 +58,7 @@ pub struct Combined {
 }
 
 // An integer modulo 2^width.
+#[tactic(auto, using(bits::specs::Cases::cases, bits::specs::Laws::Wrap::wrap_low))]
 fn wrap_bits(width: u32, z: i64) -> u32
     requires { width ≤ 32 }
     ensures { (result ≡ wrap width z) × (result < 2 ^ width) }
@@ -65,6 +66,7 @@ fn wrap_bits(width: u32, z: i64) -> u32
     bits::low_bits(bits::wrap_word(z), width)
 }
 
+#[tactic(auto, using(bits::specs::Cases::cases), unfolding(crate::specs::Parallel::result_of))]
 fn add_or_subtract(sub: bool, p: i64, q: i64) -> i64
     requires { Within 4294967296 p × Within 4294967296 q }
     ensures { result ≡ result_of sub p q }
@@ -72,6 +74,7 @@ fn add_or_subtract(sub: bool, p: i64, q: i64) -> i64
     if sub { p - q } else { p + q }
 }
 
+#[tactic(auto, using(bits::specs::Cases::cases, bits::specs::Laws::Range::read_back, crate::specs::Laws::Lanes::lane_heard))]
 fn combine_signed(width: u32, sub: bool, x: u32, y: u32) -> i64
     requires { (0 < width) × (width ≤ 16) × (x < 2 ^ width) × (y < 2 ^ width) }
     ensures { result ≡ signed_of width sub x y }
@@ -119,6 +122,7 @@ fn halve_lane(width: u32, z: i64) -> Lane
 }
 
 // The least exact result that sets GE of an unsigned lane.
+#[tactic(auto, using(bits::specs::Cases::cases), unfolding(crate::specs::Parallel::unsigned_from))]
 fn unsigned_from(width: u32, sub: bool) -> u64
     requires { width ≤ 16 }
     ensures { (result ≡ unsigned_from width sub) × (result ≤ 2 ^ 16) }
@@ -127,6 +131,7 @@ fn unsigned_from(width: u32, sub: bool) -> u64
 }
 
 // One lane.
+#[tactic(auto, using(bits::specs::Cases::cases), unfolding(crate::specs::Parallel::lane_of))]
 fn combine(variant: Variant, width: u32, sub: bool, x: u32, y: u32) -> Lane
     requires { (0 < width) × (width ≤ 16) × (x < 2 ^ width) × (y < 2 ^ width) }
     ensures { (result ≡ lane_of variant width sub x y) × (result.value < 2 ^ width) }
@@ -173,6 +178,7 @@ pub fn sets_ge(variant: Variant) -> bool
     matches!(variant, Variant::Signed | Variant::Unsigned)
 }
 
+#[tactic(auto, using(bits::specs::Cases::cases), unfolding(crate::specs::Parallel::halves_of))]
 fn join_halves(variant: Variant, low: Lane, high: Lane) -> Combined
     ensures { (result ≡ halves_of variant low high) × IfSome result.ge (λ ge. ge < 16) }
 {
@@ -187,6 +193,7 @@ fn join_halves(variant: Variant, low: Lane, high: Lane) -> Combined
     }
 }
 
+#[tactic(auto, using(bits::specs::Cases::cases), unfolding(crate::specs::Parallel::bytes_of))]
 fn join_bytes(variant: Variant, a: Lane, b: Lane, c: Lane, d: Lane) -> Combined
     requires { (a.value < 2 ^ 8) × (b.value < 2 ^ 8) × (c.value < 2 ^ 8) × (d.value < 2 ^ 8) }
     ensures { (result ≡ bytes_of variant a b c d) × IfSome result.ge (λ ge. ge < 16) }
@@ -204,6 +211,7 @@ fn combine_bytes(variant: Variant, sub: bool, x: u8, y: u8) -> Lane
 }
 
 // Bytes are written out here and below, as the definitions have them: with `from_fn` the proof of what its four calls gave did not close.
+#[tactic(auto, using(bits::specs::Cases::cases), unfolding(crate::specs::Parallel::bytewise_of))]
 fn bytewise(variant: Variant, sub: bool, n: [u8; 4], m: [u8; 4]) -> Combined
     ensures { (result ≡ bytewise_of variant sub n m) × IfSome result.ge (λ ge. ge < 16) }
 {
@@ -235,6 +243,7 @@ fn halfwise(
 }
 
 // The parallel add and subtract instructions, on the bytes of Rn and Rm.
+#[tactic(auto, using(bits::specs::Cases::cases), unfolding(crate::specs::Parallel::parallel_of))]
 pub fn parallel(variant: Variant, operation: Operation, n: [u8; 4], m: [u8; 4]) -> Combined
     ensures { (result ≡ parallel_of variant operation n m) × IfSome result.ge (λ ge. ge < 16) }
 {
@@ -259,6 +268,7 @@ fn pick(set: bool, x: u8, y: u8) -> u8
 }
 
 // SEL, of the bytes of Rn and Rm.
+#[tactic(auto, using(bits::specs::Cases::cases), unfolding(crate::specs::Bytes::sel_of))]
 pub fn select(ge: u8, n: [u8; 4], m: [u8; 4]) -> [u8; 4]
     ensures { result ≡ sel_of ge n m }
 {
@@ -271,6 +281,7 @@ pub fn select(ge: u8, n: [u8; 4], m: [u8; 4]) -> [u8; 4]
 }
 
 // The distance of each byte of Rm to that of Rs.
+#[tactic(auto, using(bits::specs::Cases::cases, crate::specs::Laws::Lanes::distance_is))]
 pub fn measure(m: [u8; 4], s: [u8; 4]) -> [u8; 4]
     ensures { result ≡ distances_of m s }
 {
@@ -289,6 +300,7 @@ fn sum_bytes(a: u8, b: u8, c: u8, d: u8) -> u32
 }
 
 // USAD8, of the bytes of Rm and Rs.
+#[tactic(auto, using(bits::specs::Cases::cases), unfolding(crate::specs::Bytes::usad8_of))]
 pub fn usad8(m: [u8; 4], s: [u8; 4]) -> u32
     ensures { (result ≡ usad8_of m s) × (result ≤ 1020) }
 {
@@ -297,6 +309,7 @@ pub fn usad8(m: [u8; 4], s: [u8; 4]) -> u32
 }
 
 // USADA8.
+#[tactic(auto, using(bits::specs::Cases::cases), unfolding(crate::specs::Bytes::usada8_of))]
 pub fn usada8(m: [u8; 4], s: [u8; 4], n: u32) -> u32
     ensures { result ≡ usada8_of m s n }
 {
@@ -334,6 +347,7 @@ fn accumulate_halves(n: u32, low: i64, high: i64) -> u32
     p + q * 65536
 }
 
+#[tactic(auto, using(bits::specs::Cases::cases), unfolding(crate::specs::Packing::added_of))]
 fn add_extended(extension: Extension, n: u32, m: u32) -> u32
     ensures { result ≡ added_of extension n m }
 {
@@ -379,6 +393,7 @@ pub fn usat(width: u32, x: u32) -> Fitted
 }
 
 // Two halves side by side, saturated if either is.
+#[tactic(auto, using(bits::specs::Cases::cases), unfolding(crate::specs::Saturation::beside_of))]
 fn beside(low: Fitted, high: Fitted) -> Fitted
     ensures { result ≡ beside_of low high }
 {

@@ -1,5 +1,5 @@
 // Lent bytes: the only place that reads and writes them, and that finds the address of answer 7.
-#![tactic(auto)]
+#![tactic(auto, using(bits::specs::Cases::cases))]
 
 ghost use Rattle.std.specs.Prelude.{◌≡◌, ◌+◌, ◌≤◌, length};
 ghost use Rattle.memory.specs.Bytes.{word_at, put_word, bytes_of, read_of, written_of};
@@ -29,6 +29,7 @@ impl Width {
 #[derive(Clone, Copy, Debug, PartialEq, Eq)]
 pub struct Outside(pub u32);
 
+#[tactic(auto, using(bits::specs::Cases::cases), unfolding(crate::specs::Bytes::word_at))]
 pub fn read32(mem: &[u8], at: u32) -> u32
     requires { at + 4 ≤ length mem.now }
     ensures { result ≡ word_at mem.now at }
@@ -37,6 +38,7 @@ pub fn read32(mem: &[u8], at: u32) -> u32
     u32::from_le_bytes([mem[i], mem[i + 1], mem[i + 2], mem[i + 3]])
 }
 
+#[tactic(auto, using(bits::specs::Cases::cases), unfolding(crate::specs::Bytes::put_word))]
 pub fn write32(mem: &mut [u8], at: u32, value: u32)
     requires { at + 4 ≤ length mem.old }
     ensures { mem.new ≡ put_word mem.old at value }
@@ -50,6 +52,7 @@ pub fn write32(mem: &mut [u8], at: u32, value: u32)
 }
 
 // A number of any width, in the low bytes of a word.
+#[tactic(auto, using(bits::specs::Cases::cases), unfolding(crate::specs::Bytes::half_at))]
 pub fn load(mem: &[u8], at: u32, width: Width) -> u32
     requires { at + bytes_of width ≤ length mem.now }
     ensures { result ≡ read_of mem.now at width }
@@ -62,6 +65,7 @@ pub fn load(mem: &[u8], at: u32, width: Width) -> u32
     }
 }
 
+#[tactic(auto, using(bits::specs::Cases::cases), unfolding(crate::specs::Bytes::put_half))]
 pub fn store(mem: &mut [u8], at: u32, width: Width, value: u32)
     requires { at + bytes_of width ≤ length mem.old }
     ensures { mem.new ≡ written_of mem.old at width value }
@@ -86,6 +90,7 @@ pub fn reaches_out(len: usize, at: u32, width: u32) -> bool
 }
 
 // The first access of a plan that has a byte outside, in transfer order.
+#[tactic(auto, using(bits::specs::Cases::cases, bits::specs::Laws::Order::left_next, crate::specs::Laws::Plans::out_here, crate::specs::Laws::Plans::out_later, crate::specs::Laws::Plans::out_none))]
 pub fn find_outside(len: usize, address: u32, width: u32, count: u32) -> Option<u32>
     ensures { result ≡ outside_of len address width count }
 {
@@ -100,6 +105,7 @@ pub fn find_outside(len: usize, address: u32, width: u32, count: u32) -> Option<
 }
 
 // The words of a plan tested whole.
+#[tactic(auto, using(bits::specs::Cases::cases), unfolding(crate::specs::Plans::within_of))]
 fn check_words(len: usize, at: u32, count: u32) -> Result<(), Outside>
     ensures { result ≡ within_of (outside_of len at 4 count) tt }
 {
@@ -134,6 +140,7 @@ pub fn store_words(mem: &mut [u8], at: u32, count: u32, values: &[u32; 16])
 }
 
 // A load of words performed: tested whole, and moved only where every access lies inside.
+#[tactic(auto, using(bits::specs::Cases::cases, crate::specs::Laws::Plans::within_ok, crate::specs::Laws::Plans::within_err), unfolding(crate::specs::Plans::within_of, crate::specs::Plans::kept_of))]
 pub fn perform_load(mem: &[u8], at: u32, count: u32, values: &mut [u32; 16]) -> Result<(), Outside>
     requires { count ≤ 16 }
     ensures { (result, values.new) ≡ load_plan_of mem.now at count values.old }
@@ -144,6 +151,7 @@ pub fn perform_load(mem: &[u8], at: u32, count: u32, values: &mut [u32; 16]) -> 
 }
 
 // A store of words performed, in the same way.
+#[tactic(auto, using(bits::specs::Cases::cases, crate::specs::Laws::Plans::within_ok, crate::specs::Laws::Plans::within_err), unfolding(crate::specs::Plans::within_of, crate::specs::Plans::kept_of))]
 pub fn perform_store(mem: &mut [u8], at: u32, count: u32, values: &[u32; 16]) -> Result<(), Outside>
     requires { count ≤ 16 }
     ensures { (result, mem.new) ≡ store_plan_of mem.old at count values.now }
@@ -154,6 +162,7 @@ pub fn perform_store(mem: &mut [u8], at: u32, count: u32, values: &[u32; 16]) ->
 }
 
 // Two words one behind the other, tested together.
+#[tactic(auto, using(bits::specs::Cases::cases, crate::specs::Laws::Plans::within_ok, crate::specs::Laws::Plans::within_err, crate::specs::Laws::Plans::inside_two), unfolding(crate::specs::Plans::within_of))]
 pub fn load_pair(mem: &[u8], at: u32) -> Result<(u32, u32), Outside>
     ensures { result ≡ load_pair_of mem.now at }
 {
@@ -163,6 +172,7 @@ pub fn load_pair(mem: &[u8], at: u32) -> Result<(u32, u32), Outside>
     Ok((low, high))
 }
 
+#[tactic(auto, using(bits::specs::Cases::cases, crate::specs::Laws::Bytes::length_word, crate::specs::Laws::Plans::within_ok, crate::specs::Laws::Plans::within_err, crate::specs::Laws::Plans::inside_two), unfolding(crate::specs::Plans::within_of, crate::specs::Plans::kept_of))]
 pub fn store_pair(mem: &mut [u8], at: u32, low: u32, high: u32) -> Result<(), Outside>
     ensures { (result, mem.new) ≡ store_pair_of mem.old at low high }
 {

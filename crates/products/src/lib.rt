@@ -1,5 +1,5 @@
 // Every multiplication of the core, on numbers alone; with them the saturating sums, which share their place in the manual.
-#![tactic(auto)]
+#![tactic(auto, using(bits::specs::Cases::cases))]
 
 ghost use Rattle.std.specs.Prelude.{◌≡◌, ◌+◌, ◌*◌, ◌^◌, ◌<◌, pos, ◌+ℤ◌, ◌*ℤ◌};
 ghost use Rattle.bits.specs.Integers.{signed};
@@ -28,6 +28,7 @@ pub fn mla(m: u32, s: u32, n: u32) -> u32
     m.wrapping_mul(s).wrapping_add(n)
 }
 
+#[tactic(auto, using(bits::specs::Cases::cases, crate::specs::Laws::Products::long_halves))]
 fn halve(w: u64) -> Long
     ensures { result ≡ long_of (pos w) }
 {
@@ -43,6 +44,7 @@ fn pair(lo: u32, hi: u32) -> u64
     hi as u64 * 0x1_0000_0000 + lo as u64
 }
 
+#[tactic(auto, using(bits::specs::Cases::cases), unfolding(crate::specs::Products::umull_of))]
 pub fn umull(m: u32, s: u32) -> Long
     ensures { result ≡ umull_of m s }
 {
@@ -55,6 +57,7 @@ pub fn umlal(m: u32, s: u32, lo: u32, hi: u32) -> Long
     halve(bits::widening_mul(m, s).wrapping_add(pair(lo, hi)))
 }
 
+#[tactic(auto, using(bits::specs::Cases::cases), unfolding(crate::specs::Products::umaal_of))]
 pub fn umaal(m: u32, s: u32, lo: u32, hi: u32) -> Long
     ensures { result ≡ umaal_of m s lo hi }
 {
@@ -68,24 +71,28 @@ fn words(m: u32, s: u32) -> i64
     bits::signed(m, 32) * bits::signed(s, 32)
 }
 
+#[tactic(auto, using(bits::specs::Cases::cases, bits::specs::Laws::Wrap::wrap_add, crate::specs::Products::pair_of, crate::specs::Laws::Products::long_wrapped))]
 fn accumulate(z: i64, lo: u32, hi: u32) -> Long
     ensures { result ≡ long_of (z +ℤ pos (pair_of lo hi)) }
 {
     halve(bits::wrap_long(z).wrapping_add(pair(lo, hi)))
 }
 
+#[tactic(auto, using(bits::specs::Cases::cases, bits::specs::Integers::signed, crate::specs::Laws::Products::long_wrapped, bits::specs::Laws::Range::heard), unfolding(crate::specs::Products::smull_of))]
 pub fn smull(m: u32, s: u32) -> Long
     ensures { result ≡ smull_of m s }
 {
     halve(bits::wrap_long(words(m, s)))
 }
 
+#[tactic(auto, using(bits::specs::Cases::cases), unfolding(crate::specs::Products::smlal_of))]
 pub fn smlal(m: u32, s: u32, lo: u32, hi: u32) -> Long
     ensures { result ≡ smlal_of m s lo hi }
 {
     accumulate(words(m, s), lo, hi)
 }
 
+#[tactic(auto, using(bits::specs::Cases::cases), unfolding(crate::specs::Products::half_of))]
 fn half(w: u32, top: bool) -> i64
     ensures { (result ≡ half_of w top) × Within (2 ^ 15) result }
 {
@@ -103,6 +110,7 @@ fn halves(m: u32, s: u32, x: bool, y: bool) -> i64
     half(m, x) * half(s, y)
 }
 
+#[tactic(auto, using(bits::specs::Cases::cases), unfolding(crate::specs::Products::sticky_of, bits::specs::Integers::outside))]
 fn mark(z: i64) -> Fitted
     ensures { result ≡ sticky_of z }
 {
@@ -112,36 +120,42 @@ fn mark(z: i64) -> Fitted
     }
 }
 
+#[tactic(auto, using(bits::specs::Cases::cases), unfolding(crate::specs::Products::smulxy_of))]
 pub fn smulxy(m: u32, s: u32, x: bool, y: bool) -> u32
     ensures { result ≡ smulxy_of m s x y }
 {
     bits::wrap_word(halves(m, s, x, y))
 }
 
+#[tactic(auto, using(bits::specs::Cases::cases), unfolding(crate::specs::Products::smlaxy_of))]
 pub fn smlaxy(m: u32, s: u32, n: u32, x: bool, y: bool) -> Fitted
     ensures { result ≡ smlaxy_of m s n x y }
 {
     mark(halves(m, s, x, y) + bits::signed(n, 32))
 }
 
+#[tactic(auto, using(bits::specs::Cases::cases), unfolding(crate::specs::Products::smlalxy_of))]
 pub fn smlalxy(m: u32, s: u32, lo: u32, hi: u32, x: bool, y: bool) -> Long
     ensures { result ≡ smlalxy_of m s lo hi x y }
 {
     accumulate(halves(m, s, x, y), lo, hi)
 }
 
+#[tactic(auto, using(bits::specs::Cases::cases), unfolding(crate::specs::Products::smulw_of))]
 pub fn smulw(m: u32, s: u32, y: bool) -> u32
     ensures { result ≡ smulw_of m s y }
 {
     (bits::wrap_long(bits::signed(m, 32) * half(s, y)) / 65536 % 0x1_0000_0000) as u32
 }
 
+#[tactic(auto, using(bits::specs::Cases::cases), unfolding(crate::specs::Products::smlaw_of))]
 pub fn smlaw(m: u32, s: u32, n: u32, y: bool) -> Fitted
     ensures { result ≡ smlaw_of m s n y }
 {
     mark(bits::signed(smulw(m, s, y), 32) + bits::signed(n, 32))
 }
 
+#[tactic(auto, using(bits::specs::Cases::cases), unfolding(crate::specs::Products::total_of))]
 fn total(x: i64, y: i64, subtract: bool) -> i64
     requires { Within (2 ^ 32) x × Within (2 ^ 62) y }
     ensures { (result ≡ total_of x y subtract) × Within (2 ^ 32 + 2 ^ 62) result }
@@ -149,12 +163,14 @@ fn total(x: i64, y: i64, subtract: bool) -> i64
     if subtract { x - y } else { x + y }
 }
 
+#[tactic(auto, using(bits::specs::Cases::cases), unfolding(crate::specs::Products::qadd_of))]
 pub fn qadd(m: u32, n: u32, subtract: bool) -> Fitted
     ensures { result ≡ qadd_of m n subtract }
 {
     alu::saturate_i32(total(bits::signed(m, 32), bits::signed(n, 32), subtract))
 }
 
+#[tactic(auto, using(bits::specs::Cases::cases), unfolding(crate::specs::Products::qdadd_of, crate::specs::Products::doubled_of))]
 pub fn qdadd(m: u32, n: u32, subtract: bool) -> Fitted
     ensures { result ≡ qdadd_of m n subtract }
 {
@@ -166,12 +182,14 @@ pub fn qdadd(m: u32, n: u32, subtract: bool) -> Fitted
     }
 }
 
+#[tactic(auto, using(bits::specs::Cases::cases), unfolding(crate::specs::Duals::second_of))]
 fn second(s: u32, x: bool) -> u32
     ensures { result ≡ second_of s x }
 {
     if x { bits::rotate_right(s, 16) } else { s }
 }
 
+#[tactic(auto, using(bits::specs::Cases::cases), unfolding(crate::specs::Duals::dual_of))]
 fn dual(m: u32, s: u32, subtract: bool, x: bool) -> i64
     ensures { (result ≡ dual_of m s subtract x) × Within (2 ^ 32 + 2 ^ 62) result }
 {
@@ -183,18 +201,21 @@ fn dual(m: u32, s: u32, subtract: bool, x: bool) -> i64
     )
 }
 
+#[tactic(auto, using(bits::specs::Cases::cases), unfolding(crate::specs::Duals::smuad_of))]
 pub fn smuad(m: u32, s: u32, subtract: bool, x: bool) -> Fitted
     ensures { result ≡ smuad_of m s subtract x }
 {
     mark(dual(m, s, subtract, x))
 }
 
+#[tactic(auto, using(bits::specs::Cases::cases), unfolding(crate::specs::Duals::smlad_of))]
 pub fn smlad(m: u32, s: u32, n: u32, subtract: bool, x: bool) -> Fitted
     ensures { result ≡ smlad_of m s n subtract x }
 {
     mark(dual(m, s, subtract, x) + bits::signed(n, 32))
 }
 
+#[tactic(auto, using(bits::specs::Cases::cases), unfolding(crate::specs::Duals::smlald_of))]
 pub fn smlald(m: u32, s: u32, lo: u32, hi: u32, subtract: bool, x: bool) -> Long
     ensures { result ≡ smlald_of m s lo hi subtract x }
 {
@@ -202,6 +223,7 @@ pub fn smlald(m: u32, s: u32, lo: u32, hi: u32, subtract: bool, x: bool) -> Long
 }
 
 // The base is below 2^64 - 2^31, so that rounding fits.
+#[tactic(auto, using(bits::specs::Cases::cases, bits::specs::Laws::Range::heard, crate::specs::Laws::Duals::most_law))]
 fn most(base: u64, m: u32, s: u32, subtract: bool, r: bool) -> u32
     requires { base + 2 ^ 31 < 2 ^ 64 }
     ensures { result ≡ most_of (pos base) m s subtract r }
@@ -211,12 +233,14 @@ fn most(base: u64, m: u32, s: u32, subtract: bool, r: bool) -> u32
     (sum / 0x1_0000_0000) as u32
 }
 
+#[tactic(auto, using(bits::specs::Cases::cases), unfolding(crate::specs::Duals::smmul_of))]
 pub fn smmul(m: u32, s: u32, subtract: bool, r: bool) -> u32
     ensures { result ≡ smmul_of m s subtract r }
 {
     most(0, m, s, subtract, r)
 }
 
+#[tactic(auto, using(bits::specs::Cases::cases, crate::specs::Laws::Duals::base_is), unfolding(crate::specs::Duals::smmla_of))]
 pub fn smmla(m: u32, s: u32, n: u32, subtract: bool, r: bool) -> u32
     ensures { result ≡ smmla_of m s n subtract r }
 {

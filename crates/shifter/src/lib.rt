@@ -1,5 +1,5 @@
 // The barrel shifter: shifts by an immediate and by a register, and the rotated immediate.
-#![tactic(auto)]
+#![tactic(auto, using(bits::specs::Cases::cases))]
 
 ghost use Rattle.std.specs.Prelude.{◌≡◌, false, ◌%◌, ◌<◌, ◌≤◌};
 ghost use Rattle.shifter.specs.Shifts.{type_of, immediate_of, by_immediate_of, by_register_of, ShiftsByImmediate, ShiftsByRegister};
@@ -20,6 +20,7 @@ pub struct Operand {
 }
 
 // Not a From: kinds are the numbers of two bits, and the public calls take those.
+#[tactic(auto, using(bits::specs::Cases::cases), unfolding(crate::specs::Shifts::type_of))]
 pub fn shift_type(kind: u32) -> ShiftType
     requires { kind < 4 }
     ensures { result ≡ type_of kind }
@@ -33,6 +34,7 @@ pub fn shift_type(kind: u32) -> ShiftType
 }
 
 // Shifts by 1 to 32 bits: in 64 bits the word and its carry stand side by side.
+#[tactic(auto, using(bits::specs::Cases::cases, crate::specs::Laws::Shifts::left_is))]
 fn shift_left(x: u32, n: u32) -> Operand
     requires { (0 < n) × (n ≤ 32) }
     ensures { result ≡ through_of ShiftType.Lsl x n }
@@ -44,6 +46,7 @@ fn shift_left(x: u32, n: u32) -> Operand
     }
 }
 
+#[tactic(auto, using(bits::specs::Cases::cases, crate::specs::Laws::Shifts::right_is))]
 fn shift_right(x: u32, n: u32) -> Operand
     requires { (0 < n) × (n ≤ 32) }
     ensures { result ≡ through_of ShiftType.Lsr x n }
@@ -56,6 +59,7 @@ fn shift_right(x: u32, n: u32) -> Operand
 }
 
 // A negative word is shifted as its complement, which is no longer negative.
+#[tactic(auto, using(bits::specs::Cases::cases, crate::specs::Laws::Shifts::signed_right_low, crate::specs::Laws::Shifts::signed_right_high))]
 fn shift_right_signed(x: u32, n: u32) -> Operand
     requires { (0 < n) × (n ≤ 32) }
     ensures { result ≡ through_of ShiftType.Asr x n }
@@ -83,6 +87,7 @@ fn rotate(x: u32, n: u32) -> Operand
 }
 
 // Any shift by 1 to 32 bits.
+#[tactic(auto, using(bits::specs::Cases::cases), unfolding(crate::specs::Laws::Shifts::through_of))]
 fn shift(ty: ShiftType, x: u32, n: u32) -> Operand
     requires { (0 < n) × (n ≤ 32) }
     ensures { result ≡ through_of ty x n }
@@ -110,6 +115,7 @@ fn by_zero(ty: ShiftType, value: u32, c: bool) -> Operand
     }
 }
 
+#[tactic(auto, using(bits::specs::Cases::cases, crate::specs::Laws::Shifts::by_immediate_some))]
 pub fn by_immediate(ty: ShiftType, value: u32, n: u32, c: bool) -> Operand
     requires { n < 32 }
     ensures { result ≡ by_immediate_of ty value n c }
@@ -122,6 +128,7 @@ pub fn by_immediate(ty: ShiftType, value: u32, n: u32, c: bool) -> Operand
 }
 
 // A shift by more than the word is wide.
+#[tactic(auto, using(bits::specs::Cases::cases, crate::specs::Laws::Shifts::left_many, crate::specs::Laws::Shifts::right_many, crate::specs::Laws::Shifts::signed_many, crate::specs::Laws::Shifts::turned_many))]
 fn by_many(ty: ShiftType, value: u32, n: u32) -> Operand
     requires { 32 < n }
     ensures { result ≡ by_register_of ty value n false }
@@ -140,6 +147,7 @@ fn by_many(ty: ShiftType, value: u32, n: u32) -> Operand
     }
 }
 
+#[tactic(auto, using(bits::specs::Cases::cases, crate::specs::Laws::Shifts::register_none, crate::specs::Laws::Shifts::by_register_some, crate::specs::Laws::Shifts::many_any))]
 pub fn by_register(ty: ShiftType, value: u32, n: u32, c: bool) -> Operand
     requires { n < 256 }
     ensures { result ≡ by_register_of ty value n c }
@@ -154,6 +162,7 @@ pub fn by_register(ty: ShiftType, value: u32, n: u32, c: bool) -> Operand
 }
 
 // Eight bits rotated right by twice a field of four.
+#[tactic(auto, using(bits::specs::Cases::cases), unfolding(crate::specs::Shifts::immediate_of))]
 pub fn immediate(imm8: u32, turns: u32, c: bool) -> Operand
     requires { (imm8 < 256) × (turns < 16) }
     ensures { result ≡ immediate_of imm8 turns c }
