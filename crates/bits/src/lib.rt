@@ -1,5 +1,5 @@
-// Words, their bits, bytes and signed readings: what the language lacks and every other crate needs.
-#![tactic(auto)]
+// Words, their bits, bytes and signed readings: the library's operations held to the manual's definitions.
+#![tactic(auto, using(crate::specs::Cases::cases))]
 
 ghost use Rattle.std.specs.Prelude.{◌≡◌, ◌+◌, ◌-◌, ◌*◌, ◌%◌, ◌^◌, ◌<◌, ◌≤◌};
 ghost use Rattle.bits.specs.Fields.{bit_of, ◌⟨◌⟩, ◌⟨◌‥◌⟩};
@@ -47,6 +47,7 @@ pub fn widening_mul(a: u32, b: u32) -> u64
 }
 
 // The signed reading of the low n bits, with its bound, so that sums and products of readings are known to fit.
+#[tactic(auto, using(crate::specs::Cases::cases, crate::specs::Laws::Range::reads_low, crate::specs::Laws::Range::reads_high, crate::specs::Laws::Range::reads_fit, crate::specs::Laws::Range::is_again, crate::specs::Laws::Range::told))]
 pub fn signed(value: u32, n: u32) -> i64
     requires { (0 < n) × (n ≤ 32) }
     ensures { (result ≡ signed n (value % 2 ^ n)) × Within (2 ^ (n - 1)) result }
@@ -74,6 +75,7 @@ pub fn wrap_word(z: i64) -> u32
 }
 
 // The low n bits as a signed number, in a word.
+#[tactic(auto, using(crate::specs::Cases::cases), unfolding(crate::specs::Words::extended_of))]
 pub fn sign_extend(value: u32, n: u32) -> u32
     requires { (0 < n) × (n ≤ 32) }
     ensures { result ≡ extended_of n value }
@@ -82,6 +84,7 @@ pub fn sign_extend(value: u32, n: u32) -> u32
 }
 
 // Rotation right by the low five bits of the amount.
+#[tactic(auto, using(crate::specs::Cases::cases, crate::specs::Laws::Words::rotated_is))]
 pub fn rotate_right(x: u32, amount: u32) -> u32
     ensures { result ≡ rotated_of x (amount % 32) }
 {
@@ -109,6 +112,7 @@ pub fn swap_bytes(x: u32) -> u32
 }
 
 // REV16.
+#[tactic(auto, using(crate::specs::Cases::cases, crate::specs::Laws::Words::rev16_is))]
 pub fn swap_bytes_in_halves(x: u32) -> u32
     ensures { result ≡ rev16_of x }
 {
@@ -116,6 +120,7 @@ pub fn swap_bytes_in_halves(x: u32) -> u32
 }
 
 // REVSH.
+#[tactic(auto, using(crate::specs::Cases::cases, crate::specs::Laws::Words::revsh_is))]
 pub fn swap_low_half(x: u32) -> u32
     ensures { result ≡ revsh_of x }
 {
@@ -123,18 +128,21 @@ pub fn swap_low_half(x: u32) -> u32
 }
 
 // RBIT.
+#[tactic(auto, using(crate::specs::Cases::cases, crate::specs::Laws::Words::reversed_is))]
 pub fn reverse_bits(x: u32) -> u32
     ensures { result ≡ reversed_of 32 x }
 {
     x.reverse_bits()
 }
 
+#[tactic(auto, using(crate::specs::Cases::cases, crate::specs::Laws::Count::leading_is))]
 pub fn leading_zeros(x: u32) -> u32
     ensures { result ≡ zeros_above 32 x }
 {
     x.leading_zeros()
 }
 
+#[tactic(auto, using(crate::specs::Cases::cases, crate::specs::Laws::Count::ones_is))]
 pub fn count_ones(x: u32) -> u32
     ensures { result ≡ ones_of 32 x }
 {
