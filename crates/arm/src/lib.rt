@@ -35,7 +35,7 @@ impl Seen {
 }
 
 // The families that are seldom met stand behind one call, so that the others stay inlined in the dispatcher.
-#[tactic(auto, using(bits::specs::Cases::cases, transfer::specs::Laws::Guards::beside_is), unfolding(crate::specs::Turn::effect_of))]
+#[tactic(auto, using(transfer::specs::Laws::Guards::guards), unfolding(crate::specs::Turn::effect_of))]
 fn execute_cold(
     family: Family,
     regs: &mut [u32; 16],
@@ -62,7 +62,7 @@ fn execute_cold(
     }
 }
 
-#[tactic(auto, using(bits::specs::Cases::cases, transfer::specs::Laws::Guards::beside_is), unfolding(crate::specs::Turn::effect_of))]
+#[tactic(auto, using(transfer::specs::Laws::Guards::guards), unfolding(crate::specs::Turn::effect_of))]
 fn execute(family: Family, regs: &mut [u32; 16], op: u32, seen: Seen, mem: &mut [u8]) -> Outcome
     ensures { (result, regs.new, mem.new) ≡ effect_of family regs.old op seen mem.old }
 {

@@ -170,7 +170,7 @@ impl Plan {
     }
 }
 
-#[tactic(auto, using(bits::specs::Cases::cases, crate::specs::Laws::Sources::stored_sources, transfer::specs::Laws::Guards::beside_is), unfolding(crate::specs::Block::store_of))]
+#[tactic(auto, using(transfer::specs::Laws::Guards::guards, crate::specs::Laws::Sources::stored_sources), unfolding(crate::specs::Block::store_of))]
 fn store(regs: &mut [u32; 16], op: u32, p: Plan, mem: &mut [u8]) -> Outcome
     requires { found_of p (length mem.old) ≡ None }
     ensures { (result, regs.new, mem.new) ≡ store_of p regs.old op mem.old }
@@ -231,7 +231,7 @@ fn take_user(m: Machine) -> [u32; 16]
     std::array::from_fn(|i| banks::read_user_reg(m, i as u32))
 }
 
-#[tactic(auto, using(bits::specs::Cases::cases, banks::specs::Banks::user_reg_of, crate::specs::Laws::Sources::stored_values), unfolding(crate::specs::UserBlock::user_store_of))]
+#[tactic(auto, using(bits::specs::Cases::cases, crate::specs::Laws::Sources::stored_values), unfolding(crate::specs::UserBlock::user_store_of))]
 fn store_user(m: Machine, op: u32, p: Plan, mem: &mut [u8]) -> Machine
     requires { found_of p (length mem.old) ≡ None }
     ensures { (result, mem.new) ≡ user_store_of p m op mem.old }

@@ -7,7 +7,7 @@ ghost use Rattle.exclusive.specs.Exclusive.{swap_of, width_of, ldrex_of, ldrexd_
 use cpu::{Answer, Outcome};
 use memory::{Outside, Width};
 
-#[tactic(auto, using(bits::specs::Cases::cases, transfer::specs::Laws::Guards::guard_open, transfer::specs::Laws::Guards::guard_shut, transfer::specs::Laws::Guards::beside_is), unfolding(crate::specs::Exclusive::swap_of))]
+#[tactic(auto, using(transfer::specs::Laws::Guards::guards), unfolding(crate::specs::Exclusive::swap_of))]
 pub fn swap(regs: &mut [u32; 16], mem: &mut [u8], op: u32) -> Outcome
     ensures { (result, regs.new, mem.new) ≡ swap_of regs.old op mem.old }
 {
@@ -43,7 +43,7 @@ fn give_tagged(regs: &mut [u32; 16], rd: u32, value: u32, at: u32) -> Outcome
 }
 
 // LDREX, LDREXB, LDREXH.
-#[tactic(auto, using(bits::specs::Cases::cases, transfer::specs::Laws::Guards::guard_open, transfer::specs::Laws::Guards::guard_shut, transfer::specs::Laws::Guards::beside_is), unfolding(crate::specs::Exclusive::ldrex_of))]
+#[tactic(auto, using(transfer::specs::Laws::Guards::guards), unfolding(crate::specs::Exclusive::ldrex_of))]
 fn load_one(regs: &mut [u32; 16], mem: &[u8], op: u32) -> Outcome
     ensures { (result, regs.new, mem.now) ≡ ldrex_of regs.old op mem.now }
 {
@@ -58,7 +58,7 @@ fn load_one(regs: &mut [u32; 16], mem: &[u8], op: u32) -> Outcome
 }
 
 // LDREXD.
-#[tactic(auto, using(bits::specs::Cases::cases, memory::specs::Laws::Plans::within_ok, memory::specs::Laws::Plans::within_err, transfer::specs::Laws::Guards::guarded_inside, transfer::specs::Laws::Guards::guarded_outside, transfer::specs::Laws::Guards::beside_is), unfolding(crate::specs::Exclusive::ldrexd_of))]
+#[tactic(auto, using(transfer::specs::Laws::Guards::guards), unfolding(crate::specs::Exclusive::ldrexd_of))]
 fn load_pair(regs: &mut [u32; 16], mem: &[u8], op: u32) -> Outcome
     ensures { (result, regs.new, mem.now) ≡ ldrexd_of regs.old op mem.now }
 {
@@ -93,7 +93,7 @@ fn fail(regs: &mut [u32; 16], op: u32) -> Outcome
 }
 
 // STREX, STREXB, STREXH.
-#[tactic(auto, using(bits::specs::Cases::cases, transfer::specs::Laws::Guards::guard_open, transfer::specs::Laws::Guards::guard_shut, transfer::specs::Laws::Guards::beside_is), unfolding(crate::specs::Exclusive::strex_of))]
+#[tactic(auto, using(transfer::specs::Laws::Guards::guards), unfolding(crate::specs::Exclusive::strex_of))]
 fn store_one(regs: &mut [u32; 16], mem: &mut [u8], op: u32, tag: Option<u32>) -> Outcome
     ensures { (result, regs.new, mem.new) ≡ strex_of regs.old op tag mem.old }
 {

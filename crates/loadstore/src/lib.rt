@@ -79,7 +79,7 @@ fn store_one(
     cpu::finish(regs)
 }
 
-#[tactic(auto, using(bits::specs::Cases::cases, bits::specs::Cases::if_yes, bits::specs::Cases::if_no, transfer::specs::Laws::Guards::guard_shut, transfer::specs::Laws::Guards::guard_open, transfer::specs::Laws::Guards::beside_is), unfolding(crate::specs::Single::single_at))]
+#[tactic(auto, using(transfer::specs::Laws::Guards::guards), unfolding(crate::specs::Single::single_at))]
 fn move_single(regs: &mut [u32; 16], op: u32, mem: &mut [u8], moved: u32, at: u32) -> Outcome
     ensures { (result, regs.new, mem.new) ≡ single_at regs.old op mem.old moved at }
 {
@@ -128,7 +128,7 @@ fn widen(value: u32, width: Width, sign: bool) -> u32
 }
 
 // A load of one value.
-#[tactic(auto, using(bits::specs::Cases::cases, transfer::specs::Laws::Guards::guard_shut, transfer::specs::Laws::Guards::guard_open, transfer::specs::Laws::Guards::beside_is))]
+#[tactic(auto, using(transfer::specs::Laws::Guards::guards))]
 fn load_wide(
     regs: &mut [u32; 16],
     op: u32,
@@ -164,7 +164,7 @@ fn load_extra(regs: &mut [u32; 16], op: u32, mem: &mut [u8], moved: u32, at: u32
 }
 
 // STRH.
-#[tactic(auto, using(bits::specs::Cases::cases, transfer::specs::Laws::Guards::guard_shut, transfer::specs::Laws::Guards::guard_open))]
+#[tactic(auto, using(transfer::specs::Laws::Guards::guards))]
 fn store_half(regs: &mut [u32; 16], op: u32, mem: &mut [u8], moved: u32, at: u32) -> Outcome
     ensures { (result, regs.new, mem.new) ≡ strh_of regs.old op mem.old moved at }
 {
@@ -177,7 +177,7 @@ fn store_half(regs: &mut [u32; 16], op: u32, mem: &mut [u8], moved: u32, at: u32
 }
 
 // LDRD.
-#[tactic(auto, using(bits::specs::Cases::cases, memory::specs::Laws::Plans::within_ok, memory::specs::Laws::Plans::within_err, transfer::specs::Laws::Guards::beside_is), unfolding(transfer::specs::Transfers::guarded_of))]
+#[tactic(auto, using(transfer::specs::Laws::Guards::guards), unfolding(transfer::specs::Transfers::guarded_of))]
 fn load_pair(regs: &mut [u32; 16], op: u32, mem: &mut [u8], moved: u32, at: u32) -> Outcome
     requires { op / 4096 % 16 < 15 }
     ensures { (result, regs.new, mem.new) ≡ ldrd_of regs.old op mem.old moved at }

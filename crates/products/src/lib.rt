@@ -71,14 +71,14 @@ fn words(m: u32, s: u32) -> i64
     bits::signed(m, 32) * bits::signed(s, 32)
 }
 
-#[tactic(auto, using(bits::specs::Cases::cases, bits::specs::Laws::Wrap::wrap_add, crate::specs::Products::pair_of, crate::specs::Laws::Products::long_wrapped))]
+#[tactic(auto, using(bits::specs::Cases::cases, bits::specs::Laws::Wrap::wrap_add, crate::specs::Laws::Products::long_wrapped))]
 fn accumulate(z: i64, lo: u32, hi: u32) -> Long
     ensures { result ≡ long_of (z +ℤ pos (pair_of lo hi)) }
 {
     halve(bits::wrap_long(z).wrapping_add(pair(lo, hi)))
 }
 
-#[tactic(auto, using(bits::specs::Cases::cases, bits::specs::Integers::signed, crate::specs::Laws::Products::long_wrapped, bits::specs::Laws::Range::heard), unfolding(crate::specs::Products::smull_of))]
+#[tactic(auto, using(bits::specs::Cases::cases, crate::specs::Laws::Products::long_wrapped, bits::specs::Laws::Range::heard), unfolding(crate::specs::Products::smull_of))]
 pub fn smull(m: u32, s: u32) -> Long
     ensures { result ≡ smull_of m s }
 {

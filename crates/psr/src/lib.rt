@@ -79,11 +79,7 @@ pub fn is_privileged(m: Mode) -> bool
 fn join_five(a: bool, b: bool, c: bool, d: bool, e: bool) -> u32
     ensures { (result ≡ bit_of a * 16 + bit_of b * 8 + bit_of c * 4 + bit_of d * 2 + bit_of e) × (result < 32) }
 {
-    u32::from(a) * 16
-        + u32::from(b) * 8
-        + u32::from(c) * 4
-        + u32::from(d) * 2
-        + u32::from(e)
+    u32::from(a) * 16 + u32::from(b) * 8 + u32::from(c) * 4 + u32::from(d) * 2 + u32::from(e)
 }
 
 // The word of a record whose GE fits.

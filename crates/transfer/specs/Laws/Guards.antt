@@ -1,9 +1,9 @@
 -- The guard of a transfer as the code tests it, and memory beside a family that leaves it alone.
 use Rattle.std.specs.Prelude.{◌≡◌, refl, true, false, Option, Some, None, List, ℕ, get_or}
 use Rattle.std.proofs.Common.{ap}
-use Rattle.bits.specs.Cases.{when◌then◌else◌}
+use Rattle.bits.specs.Cases.{when◌then◌else◌, cases}
 use Rattle.memory.specs.Plans.{reaches_out, outside_of}
-use Rattle.memory.specs.Laws.Plans.{out_one}
+use Rattle.memory.specs.Laws.Plans.{out_one, within_ok, within_err}
 use Rattle.cpu.specs.declared.Outcome.{Outcome}
 use Rattle.cpu.specs.declared.Answer.TheVariants.{Bus}
 use Rattle.cpu.specs.declared.Outcome.TheVariants.{Stop}
@@ -46,3 +46,6 @@ module _ (len at width : ℕ) (regs l : List ℕ) (done : Outcome × List ℕ ×
 pub beside_is : {x : Outcome × List ℕ} {r : Outcome} {g l : List ℕ} → ◌≡◌ {A = Outcome × List ℕ} (r, g) x
     → ◌≡◌ {A = Outcome × List ℕ × List ℕ} (r, g, l) (beside x l)
 beside_is {l = l} e = ap (λ (y : Outcome × List ℕ). beside y l) e
+
+-- what a transfer's function is proved by
+pub ruleset guards = (cases, within_ok, within_err, guard_shut, guard_open, guarded_inside, guarded_outside, beside_is)
