@@ -137,7 +137,7 @@ impl Plan {
         requires { found_of self (length mem.old) ≡ None }
         ensures { mem.new ≡ stored_by self values.now mem.old }
     {
-        let mut rest = self.list;
+        let mut rest = self.list as u32;
         let mut a = self.start;
         for value in values {
             if rest == 0 {
@@ -156,7 +156,7 @@ impl Plan {
         requires { found_of self (length mem.now) ≡ None }
         ensures { to.new ≡ loaded_list_of self R.with to.old mem.now }
     {
-        let mut rest = self.list;
+        let mut rest = self.list as u32;
         let mut a = self.start;
         for i in 0..16 {
             if rest == 0 {
