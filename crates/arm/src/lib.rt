@@ -36,6 +36,8 @@ impl Seen {
 
 // The families that are seldom met stand behind one call, so that the others stay inlined in the dispatcher.
 #[tactic(auto, using(transfer::specs::Laws::Guards::guards), unfolding(crate::specs::Turn::effect_of))]
+#[cold]
+#[inline(never)]
 fn execute_cold(
     family: Family,
     regs: &mut [u32; 16],

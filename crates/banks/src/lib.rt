@@ -178,6 +178,8 @@ pub fn branch_to(m: Machine, to: u32) -> Machine
 
 // A data operation with S into r15.
 #[tactic(auto, using(bits::specs::Cases::cases), unfolding(crate::specs::Banks::returned_of))]
+#[cold]
+#[inline(never)]
 pub fn return_to(m: Machine, to: u32) -> Machine
     ensures { result ≡ returned_of m to }
 {

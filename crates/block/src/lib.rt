@@ -132,11 +132,12 @@ impl Plan {
     }
 
     // The values of the listed registers, in transfer order; no register is looked at behind the last of the list.
+    #[inline(always)]
     fn store_listed(self, values: &[u32; 16], mem: &mut [u8])
         requires { found_of self (length mem.old) ≡ None }
         ensures { mem.new ≡ stored_by self values.now mem.old }
     {
-        let mut rest = self.list;
+        let mut rest = self.list as u32;
         let mut a = self.start;
         for value in values {
             if rest == 0 {
@@ -155,7 +156,7 @@ impl Plan {
         requires { found_of self (length mem.now) ≡ None }
         ensures { to.new ≡ loaded_list_of self R.with to.old mem.now }
     {
-        let mut rest = self.list;
+        let mut rest = self.list as u32;
         let mut a = self.start;
         for i in 0..16 {
             if rest == 0 {
@@ -293,6 +294,8 @@ fn move_user(m: Machine, op: u32, p: Plan, mem: &mut [u8]) -> Machine
 }
 
 // With S, on the machine by value: the machine afterwards, or answer 7, and memory as it was.
+#[cold]
+#[inline(never)]
 pub fn transfer_user(m: Machine, op: u32, mem: &mut [u8]) -> Result<Machine, Answer>
     ensures { (result, mem.new) ≡ user_block_of m op mem.old }
 {

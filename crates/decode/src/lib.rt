@@ -46,7 +46,7 @@ fn multiply_or_swap(hi: u32) -> Family
         }
     } else {
         match hi / 2 % 8 {
-            0 | 1 => Family::MultiplyShort,
+            kind if kind < 2 => Family::MultiplyShort,
             3 => Family::Undefined,
             _ => Family::MultiplyLong,
         }
@@ -92,14 +92,14 @@ fn operation_space(hi: u32, lo: u32) -> Family
 fn register_space(hi: u32, lo: u32) -> Family
     ensures { result ≡ register_space_of hi lo }
 {
-    if lo % 2 == 1 && lo / 8 % 2 == 1 {
-        if lo / 2 % 4 == 0 {
-            multiply_or_swap(hi)
-        } else {
-            Family::Extra
-        }
-    } else {
+    if lo % 2 == 0 {
         operation_space(hi, lo)
+    } else if lo / 8 % 2 == 0 {
+        operation_space(hi, lo)
+    } else if lo / 2 % 4 == 0 {
+        multiply_or_swap(hi)
+    } else {
+        Family::Extra
     }
 }
 

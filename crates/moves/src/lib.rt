@@ -98,6 +98,8 @@ fn cps(m: Machine, op: u32) -> Machine
 }
 
 #[tactic(auto, using(bits::specs::Cases::cases), unfolding(crate::specs::Moves::moves_of))]
+#[cold]
+#[inline(never)]
 pub fn move_status(m: Machine, op: u32) -> Machine
     ensures { result ≡ moves_of m op }
 {

@@ -29,14 +29,12 @@ pub fn short(regs: &mut [u32; 16], op: u32, c: bool, v: bool) -> Outcome
 {
     let m = regs[(op % 16) as usize];
     let s = regs[(op / 256 % 16) as usize];
-    if op / 2097152 % 2 == 1 {
-        let n = regs[(op / 4096 % 16) as usize];
-        let value = products::mla(m, s, n);
-        settle(regs, op, value, c, v)
+    let value = if op / 2097152 % 2 == 1 {
+        products::mla(m, s, regs[(op / 4096 % 16) as usize])
     } else {
-        let value = products::mul(m, s);
-        settle(regs, op, value, c, v)
-    }
+        products::mul(m, s)
+    };
+    settle(regs, op, value, c, v)
 }
 
 // A long result in RdLo and RdHi.
