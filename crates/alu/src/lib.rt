@@ -32,7 +32,7 @@ pub fn adc_with_flags(a: u32, b: u32, c: bool) -> Sum
     ensures { result ≡ adc_of a b c }
 {
     let more = u64::from(c);
-    let wide = a as u64 + b as u64 + more;
+    let wide = u64::from(a) + u64::from(b) + more;
     let lifted = lift(a) + lift(b) + more;
     Sum {
         value: (wide % 0x1_0000_0000) as u32,
@@ -47,7 +47,7 @@ pub fn sbc_with_flags(a: u32, b: u32, c: bool) -> Sum
     ensures { result ≡ sbc_of a b c }
 {
     let more = u64::from(c);
-    let raised = a as u64 + 0xFFFF_FFFF - b as u64 + more;
+    let raised = u64::from(a) + 0xFFFF_FFFF - u64::from(b) + more;
     let lifted = lift(a) + 0xFFFF_FFFF - lift(b) + more;
     Sum {
         value: (raised % 0x1_0000_0000) as u32,

@@ -146,8 +146,11 @@ fn combine(variant: Variant, width: u32, sub: bool, x: u32, y: u32) -> Lane
         }
         Variant::SignedHalving => halve_lane(width, combine_signed(width, sub, x, y)),
         Variant::Unsigned => {
-            let from = unsigned_from(width, sub);
-            wrap_lane(width, combine_unsigned(sub, x, y), from)
+            wrap_lane(
+                width,
+                combine_unsigned(sub, x, y),
+                unsigned_from(width, sub),
+            )
         }
         Variant::UnsignedSaturating => {
             keep_lane(
@@ -166,7 +169,7 @@ fn half_of(low: u8, high: u8) -> u32
 }
 
 fn join_ge(a: bool, b: bool, c: bool, d: bool) -> u8
-    ensures { (result ≡ ge_of a b c d) × (result < 16) }
+    ensures { result ≡ ge_of a b c d }
 {
     u8::from(a) + u8::from(b) * 2 + u8::from(c) * 4 + u8::from(d) * 8
 }
@@ -180,15 +183,13 @@ pub fn sets_ge(variant: Variant) -> bool
 
 #[tactic(auto, using(bits::specs::Cases::cases), unfolding(crate::specs::Parallel::halves_of))]
 fn join_halves(variant: Variant, low: Lane, high: Lane) -> Combined
-    ensures { (result ≡ halves_of variant low high) × IfSome result.ge (λ ge. ge < 16) }
+    requires { (low.value < 2 ^ 16) × (high.value < 2 ^ 16) }
+    ensures { result ≡ halves_of variant low high }
 {
+    let p = (low.value as u16).to_le_bytes();
+    let q = (high.value as u16).to_le_bytes();
     Combined {
-        lanes: [
-            (low.value % 256) as u8,
-            (low.value / 256 % 256) as u8,
-            (high.value % 256) as u8,
-            (high.value / 256 % 256) as u8,
-        ],
+        lanes: [p[0], p[1], q[0], q[1]],
         ge: sets_ge(variant).then_some(join_ge(low.ge, low.ge, high.ge, high.ge)),
     }
 }
@@ -196,7 +197,7 @@ fn join_halves(variant: Variant, low: Lane, high: Lane) -> Combined
 #[tactic(auto, using(bits::specs::Cases::cases), unfolding(crate::specs::Parallel::bytes_of))]
 fn join_bytes(variant: Variant, a: Lane, b: Lane, c: Lane, d: Lane) -> Combined
     requires { (a.value < 2 ^ 8) × (b.value < 2 ^ 8) × (c.value < 2 ^ 8) × (d.value < 2 ^ 8) }
-    ensures { (result ≡ bytes_of variant a b c d) × IfSome result.ge (λ ge. ge < 16) }
+    ensures { result ≡ bytes_of variant a b c d }
 {
     Combined {
         lanes: [a.value as u8, b.value as u8, c.value as u8, d.value as u8],
@@ -213,7 +214,7 @@ fn combine_bytes(variant: Variant, sub: bool, x: u8, y: u8) -> Lane
 // Bytes are written out here and below, as the definitions have them: with `from_fn` the proof of what its four calls gave did not close.
 #[tactic(auto, using(bits::specs::Cases::cases), unfolding(crate::specs::Parallel::bytewise_of))]
 fn bytewise(variant: Variant, sub: bool, n: [u8; 4], m: [u8; 4]) -> Combined
-    ensures { (result ≡ bytewise_of variant sub n m) × IfSome result.ge (λ ge. ge < 16) }
+    ensures { result ≡ bytewise_of variant sub n m }
 {
     join_bytes(
         variant,
@@ -235,15 +236,17 @@ fn halfwise(
     t: u32,
 ) -> Combined
     requires { (p < 2 ^ 16) × (q < 2 ^ 16) × (s < 2 ^ 16) × (t < 2 ^ 16) }
-    ensures { (result ≡ halves_of variant (lane_of variant 16 sublow p q) (lane_of variant 16 subhigh s t)) × IfSome result.ge (λ ge. ge < 16) }
+    ensures { result ≡ halves_of variant (lane_of variant 16 sublow p q) (lane_of variant 16 subhigh s t) }
 {
-    let low = combine(variant, 16, sublow, p, q);
-    let high = combine(variant, 16, subhigh, s, t);
-    join_halves(variant, low, high)
+    join_halves(
+        variant,
+        combine(variant, 16, sublow, p, q),
+        combine(variant, 16, subhigh, s, t),
+    )
 }
 
 // The parallel add and subtract instructions, on the bytes of Rn and Rm.
-#[tactic(auto, using(bits::specs::Cases::cases), unfolding(crate::specs::Parallel::parallel_of))]
+#[tactic(auto, using(bits::specs::Cases::cases, crate::specs::Laws::Ge::halves_below, crate::specs::Laws::Ge::bytewise_below), unfolding(crate::specs::Parallel::parallel_of))]
 pub fn parallel(variant: Variant, operation: Operation, n: [u8; 4], m: [u8; 4]) -> Combined
     ensures { (result ≡ parallel_of variant operation n m) × IfSome result.ge (λ ge. ge < 16) }
 {
@@ -352,17 +355,11 @@ fn add_extended(extension: Extension, n: u32, m: u32) -> u32
     ensures { result ≡ added_of extension n m }
 {
     match extension {
-        Extension::Sxtab16 => {
-            let low = bits::signed(m, 8);
-            let high = bits::signed(m / 65536, 8);
-            accumulate_halves(n, low, high)
-        }
+        Extension::Sxtab16 => accumulate_halves(n, bits::signed(m, 8), bits::signed(m / 65536, 8)),
         Extension::Sxtab => accumulate(32, n, bits::signed(m, 8)),
         Extension::Sxtah => accumulate(32, n, bits::signed(m, 16)),
         Extension::Uxtab16 => {
-            let low = i64::from(m % 256);
-            let high = i64::from(m / 65536 % 256);
-            accumulate_halves(n, low, high)
+            accumulate_halves(n, i64::from(m % 256), i64::from(m / 65536 % 256))
         }
         Extension::Uxtab => n.wrapping_add(m % 256),
         Extension::Uxtah => n.wrapping_add(m % 65536),

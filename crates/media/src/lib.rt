@@ -6,6 +6,7 @@ ghost use Rattle.media.specs.Media.{variant_of, operation_of, combined_of, paral
 
 use cpu::Outcome;
 use lanes::{Combined, Extension, Operation, Variant};
+use products::Long;
 use shifter::ShiftType;
 
 #[tactic(auto, using(bits::specs::Cases::cases), unfolding(crate::specs::Media::variant_of))]
@@ -58,14 +59,11 @@ fn put_combined(regs: &mut [u32; 16], op: u32, x: Combined) -> Outcome
 fn parallel(regs: &mut [u32; 16], op: u32) -> Outcome
     ensures { (result, regs.new) ≡ parallel_family_of regs.old op }
 {
-    let variant = variant_of(op / 1048576 % 8);
-    let operation = operation_of(op / 32 % 8);
-    match (variant, operation) {
+    match (variant_of(op / 1048576 % 8), operation_of(op / 32 % 8)) {
         (Some(variant), Some(operation)) => {
             let n = regs[(op / 65536 % 16) as usize].to_le_bytes();
             let m = regs[(op % 16) as usize].to_le_bytes();
-            let x = lanes::parallel(variant, operation, n, m);
-            put_combined(regs, op, x)
+            put_combined(regs, op, lanes::parallel(variant, operation, n, m))
         }
         _ => cpu::refuse(regs, op),
     }
@@ -76,13 +74,12 @@ fn shift(regs: &[u32; 16], op: u32) -> u32
     ensures { result ≡ shifted_of regs.now op }
 {
     let m = regs[(op % 16) as usize];
-    if op / 64 % 2 == 1 {
-        let x = shifter::by_immediate(ShiftType::Asr, m, op / 128 % 32, false);
-        x.value
+    let ty = if op / 64 % 2 == 1 {
+        ShiftType::Asr
     } else {
-        let x = shifter::by_immediate(ShiftType::Lsl, m, op / 128 % 32, false);
-        x.value
-    }
+        ShiftType::Lsl
+    };
+    shifter::by_immediate(ty, m, op / 128 % 32, false).value
 }
 
 // PKHBT, PKHTB.
@@ -160,8 +157,11 @@ fn extend(regs: &mut [u32; 16], op: u32) -> Outcome
         Some(extension) => {
             let n = addend(regs, op);
             let m = regs[(op % 16) as usize];
-            let value = lanes::extend(extension, n, m, op / 1024 % 4);
-            cpu::put(regs, op / 4096 % 16, value)
+            cpu::put(
+                regs,
+                op / 4096 % 16,
+                lanes::extend(extension, n, m, op / 1024 % 4),
+            )
         }
         None => cpu::refuse(regs, op),
     }
@@ -198,8 +198,7 @@ fn reverse(regs: &mut [u32; 16], op: u32) -> Outcome
 fn pack_sat_extend(regs: &mut [u32; 16], op: u32, ge: u8) -> Outcome
     ensures { (result, regs.new) ≡ packing_of regs.old op ge }
 {
-    let even = !(op / 32 % 2 == 1);
-    if even {
+    if !(op / 32 % 2 == 1) {
         if op / 1048576 % 8 == 0 {
             pkh(regs, op)
         } else {
@@ -208,18 +207,10 @@ fn pack_sat_extend(regs: &mut [u32; 16], op: u32, ge: u8) -> Outcome
     } else if op / 32 % 8 == 3 {
         extend(regs, op)
     } else {
-        let sel = (op / 1048576 % 8 == 0) & (op / 32 % 8 == 5);
-        if sel {
-            select(regs, op, ge)
-        } else {
-            let ssat16 = (op / 1048576 % 8 == 2) & (op / 32 % 8 == 1);
-            let usat16 = (op / 1048576 % 8 == 6) & (op / 32 % 8 == 1);
-            let sat16 = ssat16 | usat16;
-            if sat16 {
-                saturate16(regs, op)
-            } else {
-                reverse(regs, op)
-            }
+        match (op / 1048576 % 8, op / 32 % 8) {
+            (0, 5) => select(regs, op, ge),
+            (2 | 6, 1) => saturate16(regs, op),
+            _ => reverse(regs, op),
         }
     }
 }
@@ -247,10 +238,13 @@ fn smlald(regs: &mut [u32; 16], op: u32) -> Outcome
 {
     let m = regs[(op % 16) as usize];
     let s = regs[(op / 256 % 16) as usize];
-    let lo = regs[(op / 4096 % 16) as usize];
-    let hi = regs[(op / 65536 % 16) as usize];
-    let sum = products::smlald(m, s, lo, hi, op / 64 % 2 == 1, op / 32 % 2 == 1);
-    multiply::put_long(regs, op, sum)
+    let sum = Long {
+        lo: regs[(op / 4096 % 16) as usize],
+        hi: regs[(op / 65536 % 16) as usize],
+    };
+    let subtract = op / 64 % 2 == 1;
+    let x = op / 32 % 2 == 1;
+    multiply::put_long(regs, op, products::smlald(m, s, sum, subtract, x))
 }
 
 // SMMLA, SMMLS, SMMUL.
@@ -313,13 +307,9 @@ pub fn execute(regs: &mut [u32; 16], op: u32, ge: u8) -> Outcome
         0 => parallel(regs, op),
         1 => pack_sat_extend(regs, op, ge),
         2 => dual_multiply(regs, op),
-        _ => {
-            let usad = (op / 1048576 % 8 == 0) & (op / 32 % 8 == 0);
-            if usad {
-                usad8(regs, op)
-            } else {
-                cpu::refuse(regs, op)
-            }
-        }
+        _ => match (op / 1048576 % 8, op / 32 % 8) {
+            (0, 0) => usad8(regs, op),
+            _ => cpu::refuse(regs, op),
+        },
     }
 }

@@ -94,9 +94,7 @@ pub fn coprocessor(regs: &mut [u32; 16], op: u32) -> Outcome
 pub fn coprocessor_register(regs: &mut [u32; 16], op: u32) -> Outcome
     ensures { (result, regs.new) ≡ coprocessor_move_of regs.old op }
 {
-    let number = op / 256 % 16;
-    let known = (number == 10) | (number == 11) | (number == 15);
-    if known {
+    if matches!(op / 256 % 16, 10 | 11 | 15) {
         Outcome::Stop(Answer::Coprocessor(op))
     } else {
         cpu::finish(regs)

@@ -65,17 +65,19 @@ fn multiply_long(regs: &[u32; 16], op: u32) -> Long
 {
     let m = regs[(op % 16) as usize];
     let s = regs[(op / 256 % 16) as usize];
-    let lo = regs[(op / 4096 % 16) as usize];
-    let hi = regs[(op / 65536 % 16) as usize];
+    let sum = Long {
+        lo: regs[(op / 4096 % 16) as usize],
+        hi: regs[(op / 65536 % 16) as usize],
+    };
     if op / 4194304 % 2 == 1 {
         if op / 2097152 % 2 == 1 {
-            products::smlal(m, s, lo, hi)
+            products::smlal(m, s, sum)
         } else {
             products::smull(m, s)
         }
     } else {
         if op / 2097152 % 2 == 1 {
-            products::umlal(m, s, lo, hi)
+            products::umlal(m, s, sum)
         } else {
             products::umull(m, s)
         }
@@ -92,8 +94,7 @@ pub fn long(regs: &mut [u32; 16], op: u32, c: bool, v: bool) -> Outcome
         let s = regs[(op / 256 % 16) as usize];
         let lo = regs[(op / 4096 % 16) as usize];
         let hi = regs[(op / 65536 % 16) as usize];
-        let x = products::umaal(m, s, lo, hi);
-        put_long(regs, op, x)
+        put_long(regs, op, products::umaal(m, s, lo, hi))
     } else {
         let x = multiply_long(regs, op);
         settle_long(regs, op, x, c, v)
@@ -122,28 +123,22 @@ pub fn halfword(regs: &mut [u32; 16], op: u32) -> Outcome
     let x = op / 32 % 2 == 1;
     let y = op / 64 % 2 == 1;
     match op / 2097152 % 4 {
-        0 => {
-            let sum = products::smlaxy(m, s, n, x, y);
-            mark(regs, rd, sum)
-        }
+        0 => mark(regs, rd, products::smlaxy(m, s, n, x, y)),
         1 => {
             if x {
-                let value = products::smulw(m, s, y);
-                cpu::put(regs, rd, value)
+                cpu::put(regs, rd, products::smulw(m, s, y))
             } else {
-                let sum = products::smlaw(m, s, n, y);
-                mark(regs, rd, sum)
+                mark(regs, rd, products::smlaw(m, s, n, y))
             }
         }
         2 => {
-            let hi = regs[rd as usize];
-            let sum = products::smlalxy(m, s, n, hi, x, y);
-            put_long(regs, op, sum)
+            let sum = Long {
+                lo: n,
+                hi: regs[rd as usize],
+            };
+            put_long(regs, op, products::smlalxy(m, s, sum, x, y))
         }
-        _ => {
-            let value = products::smulxy(m, s, x, y);
-            cpu::put(regs, rd, value)
-        }
+        _ => cpu::put(regs, rd, products::smulxy(m, s, x, y)),
     }
 }
 
@@ -157,10 +152,8 @@ pub fn saturating(regs: &mut [u32; 16], op: u32) -> Outcome
     let rd = op / 4096 % 16;
     let subtract = op / 2097152 % 2 == 1;
     if op / 4194304 % 2 == 1 {
-        let sum = products::qdadd(m, n, subtract);
-        mark(regs, rd, sum)
+        mark(regs, rd, products::qdadd(m, n, subtract))
     } else {
-        let sum = products::qadd(m, n, subtract);
-        mark(regs, rd, sum)
+        mark(regs, rd, products::qadd(m, n, subtract))
     }
 }

@@ -16,6 +16,26 @@ pub struct Long {
     pub hi: u32,
 }
 
+impl From<u64> for Long {
+    ghost from_gives = { λ w x. x ≡ long_of (pos w) };
+
+    #[tactic(auto, using(bits::specs::Cases::cases, crate::specs::Laws::Products::long_halves))]
+    fn from(w: u64) -> Long {
+        Long {
+            lo: (w % 0x1_0000_0000) as u32,
+            hi: (w / 0x1_0000_0000) as u32,
+        }
+    }
+}
+
+impl From<Long> for u64 {
+    ghost from_gives = { λ x w. w ≡ pair_of x.lo x.hi };
+
+    fn from(x: Long) -> u64 {
+        u64::from(x.hi) * 0x1_0000_0000 + u64::from(x.lo)
+    }
+}
+
 pub fn mul(m: u32, s: u32) -> u32
     ensures { result ≡ mul_of m s }
 {
@@ -28,40 +48,25 @@ pub fn mla(m: u32, s: u32, n: u32) -> u32
     m.wrapping_mul(s).wrapping_add(n)
 }
 
-#[tactic(auto, using(bits::specs::Cases::cases, crate::specs::Laws::Products::long_halves))]
-fn halve(w: u64) -> Long
-    ensures { result ≡ long_of (pos w) }
-{
-    Long {
-        lo: (w % 0x1_0000_0000) as u32,
-        hi: (w / 0x1_0000_0000) as u32,
-    }
-}
-
-fn pair(lo: u32, hi: u32) -> u64
-    ensures { result ≡ pair_of lo hi }
-{
-    hi as u64 * 0x1_0000_0000 + lo as u64
-}
-
 #[tactic(auto, using(bits::specs::Cases::cases), unfolding(crate::specs::Products::umull_of))]
 pub fn umull(m: u32, s: u32) -> Long
     ensures { result ≡ umull_of m s }
 {
-    halve(bits::widening_mul(m, s))
+    Long::from(bits::widening_mul(m, s))
 }
 
-pub fn umlal(m: u32, s: u32, lo: u32, hi: u32) -> Long
-    ensures { result ≡ umlal_of m s lo hi }
+#[tactic(auto, using(bits::specs::Cases::cases, crate::specs::Laws::Products::long_wrapping), unfolding(crate::specs::Products::umlal_of))]
+pub fn umlal(m: u32, s: u32, sum: Long) -> Long
+    ensures { result ≡ umlal_of m s sum.lo sum.hi }
 {
-    halve(bits::widening_mul(m, s).wrapping_add(pair(lo, hi)))
+    Long::from(bits::widening_mul(m, s).wrapping_add(u64::from(sum)))
 }
 
 #[tactic(auto, using(bits::specs::Cases::cases), unfolding(crate::specs::Products::umaal_of))]
 pub fn umaal(m: u32, s: u32, lo: u32, hi: u32) -> Long
     ensures { result ≡ umaal_of m s lo hi }
 {
-    halve(bits::widening_mul(m, s) + lo as u64 + hi as u64)
+    Long::from(bits::widening_mul(m, s) + u64::from(lo) + u64::from(hi))
 }
 
 // The signed product of two words.
@@ -72,24 +77,24 @@ fn words(m: u32, s: u32) -> i64
 }
 
 #[tactic(auto, using(bits::specs::Cases::cases, bits::specs::Laws::Wrap::wrap_add, crate::specs::Laws::Products::long_wrapped))]
-fn accumulate(z: i64, lo: u32, hi: u32) -> Long
-    ensures { result ≡ long_of (z +ℤ pos (pair_of lo hi)) }
+fn accumulate(z: i64, sum: Long) -> Long
+    ensures { result ≡ long_of (z +ℤ pos (pair_of sum.lo sum.hi)) }
 {
-    halve(bits::wrap_long(z).wrapping_add(pair(lo, hi)))
+    Long::from(bits::wrap_long(z).wrapping_add(u64::from(sum)))
 }
 
 #[tactic(auto, using(bits::specs::Cases::cases, crate::specs::Laws::Products::long_wrapped, bits::specs::Laws::Range::heard), unfolding(crate::specs::Products::smull_of))]
 pub fn smull(m: u32, s: u32) -> Long
     ensures { result ≡ smull_of m s }
 {
-    halve(bits::wrap_long(words(m, s)))
+    Long::from(bits::wrap_long(words(m, s)))
 }
 
 #[tactic(auto, using(bits::specs::Cases::cases), unfolding(crate::specs::Products::smlal_of))]
-pub fn smlal(m: u32, s: u32, lo: u32, hi: u32) -> Long
-    ensures { result ≡ smlal_of m s lo hi }
+pub fn smlal(m: u32, s: u32, sum: Long) -> Long
+    ensures { result ≡ smlal_of m s sum.lo sum.hi }
 {
-    accumulate(words(m, s), lo, hi)
+    accumulate(words(m, s), sum)
 }
 
 #[tactic(auto, using(bits::specs::Cases::cases), unfolding(crate::specs::Products::half_of))]
@@ -135,10 +140,10 @@ pub fn smlaxy(m: u32, s: u32, n: u32, x: bool, y: bool) -> Fitted
 }
 
 #[tactic(auto, using(bits::specs::Cases::cases), unfolding(crate::specs::Products::smlalxy_of))]
-pub fn smlalxy(m: u32, s: u32, lo: u32, hi: u32, x: bool, y: bool) -> Long
-    ensures { result ≡ smlalxy_of m s lo hi x y }
+pub fn smlalxy(m: u32, s: u32, sum: Long, x: bool, y: bool) -> Long
+    ensures { result ≡ smlalxy_of m s sum.lo sum.hi x y }
 {
-    accumulate(halves(m, s, x, y), lo, hi)
+    accumulate(halves(m, s, x, y), sum)
 }
 
 #[tactic(auto, using(bits::specs::Cases::cases), unfolding(crate::specs::Products::smulw_of))]
@@ -216,10 +221,10 @@ pub fn smlad(m: u32, s: u32, n: u32, subtract: bool, x: bool) -> Fitted
 }
 
 #[tactic(auto, using(bits::specs::Cases::cases), unfolding(crate::specs::Duals::smlald_of))]
-pub fn smlald(m: u32, s: u32, lo: u32, hi: u32, subtract: bool, x: bool) -> Long
-    ensures { result ≡ smlald_of m s lo hi subtract x }
+pub fn smlald(m: u32, s: u32, sum: Long, subtract: bool, x: bool) -> Long
+    ensures { result ≡ smlald_of m s sum.lo sum.hi subtract x }
 {
-    accumulate(dual(m, s, subtract, x), lo, hi)
+    accumulate(dual(m, s, subtract, x), sum)
 }
 
 // The base is below 2^64 - 2^31, so that rounding fits.
@@ -244,5 +249,5 @@ pub fn smmul(m: u32, s: u32, subtract: bool, r: bool) -> u32
 pub fn smmla(m: u32, s: u32, n: u32, subtract: bool, r: bool) -> u32
     ensures { result ≡ smmla_of m s n subtract r }
 {
-    most(n as u64 * 0x1_0000_0000, m, s, subtract, r)
+    most(u64::from(n) * 0x1_0000_0000, m, s, subtract, r)
 }

@@ -134,11 +134,7 @@ fn by_many(ty: ShiftType, value: u32, n: u32) -> Operand
     ensures { result ≡ by_register_of ty value n false }
 {
     match ty {
-        ShiftType::Lsl => Operand {
-            value: 0,
-            carry: false,
-        },
-        ShiftType::Lsr => Operand {
+        ShiftType::Lsl | ShiftType::Lsr => Operand {
             value: 0,
             carry: false,
         },

@@ -1,5 +1,5 @@
 -- Where a parallel sum sets GE, it is of four bits.
-use Rattle.std.specs.Prelude.{Bool, true, false, List, ℕ, ◌≤◌, Option, IfSome}
+use Rattle.std.specs.Prelude.{Bool, true, false, List, ℕ, ◌≤◌, ◌<◌, Option, Some, None, IfSome}
 use Rattle.std.specs.Bool.{then_some}
 use Rattle.std.proofs.Common.{arith}
 use Rattle.bits.specs.Laws.Bools.{bit_le}
@@ -35,3 +35,15 @@ parallel_ge v Sax n m = halves_ge v _ _
 parallel_ge v Sub16 n m = halves_ge v _ _
 parallel_ge v Add8 n m = bytes_ge v _ _ _ _
 parallel_ge v Sub8 n m = bytes_ge v _ _ _ _
+
+below : (ge : Option ℕ) → Small ge → IfSome ge (λ n. n < 16)
+below (Some n) h = omega (arith, h)
+below None h = tt
+
+-- the same as the code's promise has it
+pub halves_below : (v : Variant) (low high : Lane) → IfSome (halves_of v low high).ge (λ n. n < 16)
+halves_below v low high = below _ (halves_ge v low high)
+
+pub bytewise_below : (v : Variant) (sub : Bool) (n m : List ℕ) → IfSome (bytewise_of v sub n m).ge (λ n. n < 16)
+unfolding bytewise_of
+bytewise_below v sub n m = below _ (bytes_ge v _ _ _ _)

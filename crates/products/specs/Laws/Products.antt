@@ -17,3 +17,7 @@ long_halves w h = rw (mod-eq_of_lt h, ← upper_half w h)
 pub long_wrapped : (z : ℤ) → long_of (pos (wrap 64 z)) ≡ long_of z
 unfolding long_of
 long_wrapped z = rw (mod-eq_of_lt (wrap_lt 64 z))
+
+-- a sum that wraps at 64 bits
+pub long_wrapping : (n : ℕ) → long_of (pos (n % 2 ^ 64)) ≡ long_of (pos n)
+long_wrapping n = long_wrapped (pos n)
