@@ -2,7 +2,8 @@
 use Rattle.std.specs.Prelude.{Bool, Option, Some, None, Result, Ok, Err, List, [], ◌∷◌, ℕ, zero, suc, ◌+◌, ◌%◌, ◌^◌, length, get_or, drop}
 use Rattle.std.proofs.lemmas.List.Edits.{sets}
 use Rattle.bits.specs.Cases.{when◌then◌else◌, ◌<?◌}
-use Rattle.memory.specs.Bytes.{word_at, put_word}
+use Rattle.memory.specs.declared.Width.{Width}
+use Rattle.memory.specs.Bytes.{word_at, put_word, bytes_of, read_of, written_of}
 use Rattle.memory.specs.declared.Outside.{Outside}
 
 -- the addresses of `count` accesses of `width` bytes, one behind the other; address sums wrap at 32 bits
@@ -60,6 +61,13 @@ load_plan_of l at count values = performed_of (outside_of (length l) at 4 count)
 
 abbrev pub store_plan_of : List ℕ → ℕ → ℕ → List ℕ → Result Unit Outside × List ℕ
 store_plan_of l at count values = performed_of (outside_of (length l) at 4 count) l (stored_of l at count values)
+
+-- one number of any width
+abbrev pub load_one_of : List ℕ → ℕ → Width → Result ℕ Outside
+load_one_of l at width = within_of (outside_of (length l) at (bytes_of width) 1) (read_of l at width)
+
+abbrev pub store_one_of : List ℕ → ℕ → Width → ℕ → Result Unit Outside × List ℕ
+store_one_of l at width value = performed_of (outside_of (length l) at (bytes_of width) 1) l (written_of l at width value)
 
 -- two words; the second address wraps at 32 bits
 abbrev pub load_pair_of : List ℕ → ℕ → Result (ℕ × ℕ) Outside

@@ -3,7 +3,7 @@
 
 ghost use Rattle.std.specs.Prelude.{◌≡◌, ◌+◌, ◌≤◌, length};
 ghost use Rattle.memory.specs.Bytes.{word_at, put_word, bytes_of, read_of, written_of};
-ghost use Rattle.memory.specs.Plans.{reaches_out, outside_of, within_of, loaded_of, stored_of, load_plan_of, store_plan_of, load_pair_of, store_pair_of};
+ghost use Rattle.memory.specs.Plans.{reaches_out, outside_of, within_of, loaded_of, stored_of, load_plan_of, store_plan_of, load_one_of, store_one_of, load_pair_of, store_pair_of};
 
 // What one access moves.
 #[derive(Clone, Copy, Debug, PartialEq, Eq)]
@@ -59,8 +59,8 @@ pub fn load(mem: &[u8], at: u32, width: Width) -> u32
 {
     let i = at as usize;
     match width {
-        Width::Byte => mem[i] as u32,
-        Width::Half => u16::from_le_bytes([mem[i], mem[i + 1]]) as u32,
+        Width::Byte => u32::from(mem[i]),
+        Width::Half => u32::from(u16::from_le_bytes([mem[i], mem[i + 1]])),
         Width::Word => read32(mem, at),
     }
 }
@@ -82,7 +82,7 @@ pub fn store(mem: &mut [u8], at: u32, width: Width, value: u32)
     }
 }
 
-// Whether an access has a byte outside; it says so of any number of bytes, and so does the next.
+// Whether an access has a byte outside. It takes a number of bytes, as `outside_of` does, which says it of every number and not of the three widths alone; so does the next.
 pub fn reaches_out(len: usize, at: u32, width: u32) -> bool
     ensures { result ≡ reaches_out len at width }
 {
@@ -104,6 +104,30 @@ pub fn find_outside(len: usize, address: u32, width: u32, count: u32) -> Option<
     None
 }
 
+// One access, tested and then made.
+#[tactic(auto, using(bits::specs::Cases::cases, crate::specs::Laws::Plans::out_one, crate::specs::Laws::Plans::reached), unfolding(crate::specs::Plans::within_of))]
+pub fn try_load(mem: &[u8], at: u32, width: Width) -> Result<u32, Outside>
+    ensures { result ≡ load_one_of mem.now at width }
+{
+    if reaches_out(mem.len(), at, width.bytes()) {
+        Err(Outside(at))
+    } else {
+        Ok(load(mem, at, width))
+    }
+}
+
+#[tactic(auto, using(bits::specs::Cases::cases, crate::specs::Laws::Plans::out_one, crate::specs::Laws::Plans::reached), unfolding(crate::specs::Plans::within_of, crate::specs::Plans::kept_of))]
+pub fn try_store(mem: &mut [u8], at: u32, width: Width, value: u32) -> Result<(), Outside>
+    ensures { (result, mem.new) ≡ store_one_of mem.old at width value }
+{
+    if reaches_out(mem.len(), at, width.bytes()) {
+        Err(Outside(at))
+    } else {
+        store(mem, at, width, value);
+        Ok(())
+    }
+}
+
 // The words of a plan tested whole.
 #[tactic(auto, using(bits::specs::Cases::cases), unfolding(crate::specs::Plans::within_of))]
 fn check_words(len: usize, at: u32, count: u32) -> Result<(), Outside>
@@ -115,7 +139,7 @@ fn check_words(len: usize, at: u32, count: u32) -> Result<(), Outside>
     }
 }
 
-// The words of a plan as the first of the values, in transfer order.
+// The words of a plan as the first of the values, in transfer order. This and the next are mirror images, and differ in which side is lent to be written, so one generic is no plainer; the sixteen come whole with their count, as `loaded_of` says that the rest of them stays.
 pub fn load_words(mem: &[u8], at: u32, count: u32, values: &mut [u32; 16])
     requires { (outside_of (length mem.now) at 4 count ≡ None) × (count ≤ 16) }
     ensures { values.new ≡ loaded_of mem.now at count values.old }
@@ -139,7 +163,7 @@ pub fn store_words(mem: &mut [u8], at: u32, count: u32, values: &[u32; 16])
     }
 }
 
-// A load of words performed: tested whole, and moved only where every access lies inside.
+// A load of words performed: tested whole, and moved only where every access lies inside. This and the next stand apart and take the sixteen for the same reasons.
 #[tactic(auto, using(bits::specs::Cases::cases, crate::specs::Laws::Plans::within_ok, crate::specs::Laws::Plans::within_err), unfolding(crate::specs::Plans::within_of, crate::specs::Plans::kept_of))]
 pub fn perform_load(mem: &[u8], at: u32, count: u32, values: &mut [u32; 16]) -> Result<(), Outside>
     requires { count ≤ 16 }
