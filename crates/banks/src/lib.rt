@@ -10,6 +10,7 @@ ghost use Rattle.banks.specs.Laws.Parts.{saved_at, taken_at};
 use cpu::Machine;
 use psr::{Mode, Status};
 
+// A place in the arrays of `Machine`, which docs/CLAIMS.md requires side by side; User and System, which have no saved record, share 5 for r13 and r14, so 5 is a bank and no absence.
 pub fn bank_of(mode: Mode) -> usize
     ensures { (result ≡ bank_of mode) × (result ≤ 5) }
 {
@@ -19,8 +20,7 @@ pub fn bank_of(mode: Mode) -> usize
         Mode::Supervisor => 2,
         Mode::Abort => 3,
         Mode::Undefined => 4,
-        Mode::User => 5,
-        Mode::System => 5,
+        Mode::User | Mode::System => 5,
     }
 }
 
@@ -30,6 +30,7 @@ pub fn is_fiq(mode: Mode) -> bool
     mode == Mode::Fiq
 }
 
+// Here and below `b ≤ 5` is what `bank_of` promises: a type of six banks would only wrap that number and say it again.
 fn keep_pair(m: Machine, b: usize) -> [u32; 12]
     requires { b ≤ 5 }
     ensures { result ≡ set (set m.banked (2 * b) (get_or m.regs 13 0)) (2 * b + 1) (get_or m.regs 14 0) }
@@ -57,22 +58,20 @@ fn keep_saved(m: Machine, b: usize) -> [Status; 5]
 fn read_five(regs: [u32; 16]) -> [u32; 5]
     ensures { result ≡ r8to12 regs }
 {
-    [regs[8], regs[9], regs[10], regs[11], regs[12]]
+    let mut out = [0; 5];
+    out.copy_from_slice(&regs[8..13]);
+    out
 }
 
 fn write_five(regs: [u32; 16], x: [u32; 5]) -> [u32; 16]
     ensures { result ≡ with_r8to12 regs x }
 {
     let mut out = regs;
-    out[8] = x[0];
-    out[9] = x[1];
-    out[10] = x[2];
-    out[11] = x[3];
-    out[12] = x[4];
+    out[8..13].copy_from_slice(&x);
     out
 }
 
-// r8 to r12 where `on`, else what was kept before.
+// r8 to r12 where `on`, else what was kept before: `fiq_kept` and `user_kept` in one function, and a match on modes would be no plainer.
 fn keep_five(on: bool, regs: [u32; 16], kept: [u32; 5]) -> [u32; 5]
     ensures { result ≡ (when on then r8to12 regs else kept) }
 {
@@ -89,6 +88,7 @@ fn take_pair(regs: [u32; 16], pairs: [u32; 12], b: usize) -> [u32; 16]
     out
 }
 
+// `regs_taken`: FIQ's where FIQ is entered, User's where FIQ is left; a flag for each of its two tests.
 fn take_five(regs: [u32; 16], from: bool, to: bool, fiq: [u32; 5], user: [u32; 5]) -> [u32; 16]
     ensures { result ≡ (when to then with_r8to12 regs fiq else when from then with_r8to12 regs user else regs) }
 {
@@ -227,6 +227,7 @@ pub fn read_user_reg(m: Machine, r: u32) -> u32
     }
 }
 
+// This and the two below differ in the field and the offset: one function of both would take the array apart and put it back.
 fn put_reg(m: Machine, r: u32, value: u32) -> Machine
     requires { r < 16 }
     ensures { result ≡ with_regs m (set m.regs r value) }

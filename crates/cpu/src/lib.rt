@@ -125,14 +125,7 @@ impl Answer {
 pub fn is_bad(m: Machine) -> bool
     ensures { result ≡ bad_of m }
 {
-    let [a, b, c, d, e] = m.saved;
-    (15 < m.cpsr.ge)
-        | (15 < m.spsr.ge)
-        | (15 < a.ge)
-        | (15 < b.ge)
-        | (15 < c.ge)
-        | (15 < d.ge)
-        | (15 < e.ge)
+    (15 < m.cpsr.ge) | (15 < m.spsr.ge) | m.saved.iter().any(|s| 15 < s.ge)
 }
 
 // N and Z of a result, with C and V.

@@ -1,4 +1,4 @@
-// The list of recorded answers as text: reading a line, making what its seed stands for, judging what a call left, and saying so.
+// The list of recorded answers as text: what a case lists of a machine, reading a line, making what its seed stands for, judging what a call left, and saying so.
 #![tactic(auto)]
 
 pub mod items;

@@ -66,14 +66,14 @@ fn mode(i: u32) -> u32 {
 // Any word, an edge, a small number, or an address in or just past the memory.
 fn value(kind: u32, any: u32, length: Length) -> u32 {
     match kind % 8 {
-        0 | 1 | 2 | 3 => any,
+        0..=3 => any,
         4 | 5 => edge(any),
         6 => any % 64,
         _ => length.address(any),
     }
 }
 
-// Any flags and a mode that is one.
+// Any flags and a mode that is one. Beside `current` no function takes the span: two lines each are no longer than a call with 32 or 64 to explain.
 fn status(kind: u32, any: u32) -> u32 {
     any / 32 * 32 + mode(kind) % 32
 }
@@ -92,8 +92,8 @@ fn word(i: u32, kind: u32, any: u32, length: Length) -> u32 {
     match i {
         15 => aligned(length.address(any)),
         16 => current(kind, any),
-        17 | 18 | 19 | 20 | 21 | 22 => status(kind, any),
-        23 | 24 | 25 | 26 | 27 | 28 | 29 => any % 16,
+        17..=22 => status(kind, any),
+        23..=29 => any % 16,
         52 => any % 2,
         _ => value(kind, any, length),
     }

@@ -4,7 +4,6 @@
 ghost use Rattle.std.specs.Prelude.{◌≡◌, ◌+◌, ◌*◌, ◌≤◌, ◌<◌};
 ghost use Rattle.bits.specs.Fields.{bit_of};
 ghost use Rattle.psr.specs.Status.{mode_number, mode_of, word_of, packed_word_of, Packs, Unpacks, passed_of, privileged, written_of};
-ghost use Rattle.psr.specs.Laws.Parts.{flags_from, ge_from, extension_from, control_from};
 
 #[derive(Clone, Copy, PartialEq, Eq)]
 pub enum Mode {
@@ -17,6 +16,7 @@ pub enum Mode {
     System,
 }
 
+// The fields of the packed word: one record, since document 01 packs and copies it whole.
 #[derive(Clone, Copy)]
 pub struct Status {
     pub n: bool,
@@ -53,7 +53,7 @@ impl From<Mode> for u32 {
     }
 }
 
-// Not a `From`, since it is many to one: a number that is no mode's reads as User.
+// A function, since docs/CLAIMS.md names `mode_of`, and no `From`, since it is many to one: a number that is no mode's reads as User.
 #[tactic(auto, using(bits::specs::Cases::cases), unfolding(crate::specs::Status::mode_of))]
 pub fn mode_of(number: u32) -> Mode
     ensures { result ≡ mode_of number }
@@ -75,7 +75,7 @@ pub fn is_privileged(m: Mode) -> bool
     m != Mode::User
 }
 
-// Five bits side by side, the first on top.
+// Five bits side by side, the first on top: for those over GE and those under A, so no record holds just them.
 fn join_five(a: bool, b: bool, c: bool, d: bool, e: bool) -> u32
     ensures { (result ≡ bit_of a * 16 + bit_of b * 8 + bit_of c * 4 + bit_of d * 2 + bit_of e) × (result < 32) }
 {
@@ -131,7 +131,7 @@ pub fn unpack(w: u32) -> Status
     }
 }
 
-// Whether an instruction with this condition field is executed.
+// Whether an instruction with this condition field is executed. The flags stand apart: docs/CLAIMS.md names this call, and its users have no record of four flags.
 #[tactic(auto, using(bits::specs::Cases::cases), unfolding(crate::specs::Status::passed_of, crate::specs::Status::conditions))]
 pub fn check_condition(cond: u32, n: bool, z: bool, c: bool, v: bool) -> bool
     ensures { result ≡ passed_of cond n z c v }
@@ -155,69 +155,33 @@ pub fn check_condition(cond: u32, n: bool, z: bool, c: bool, v: bool) -> bool
     }
 }
 
-// MSR's write in four parts, one for each bit of the mask: s with the fields of w where the bit is on.
-fn write_flags(s: Status, w: Status, on: bool) -> Status
-    ensures { result ≡ flags_from s w on }
-{
-    if on {
-        Status {
-            n: w.n,
-            z: w.z,
-            c: w.c,
-            v: w.v,
-            q: w.q,
-            ..s
-        }
-    } else {
-        s
-    }
-}
-
-fn write_ge(s: Status, w: Status, on: bool) -> Status
-    ensures { result ≡ ge_from s w on }
-{
-    if on { Status { ge: w.ge, ..s } } else { s }
-}
-
-fn write_extension(s: Status, w: Status, on: bool) -> Status
-    ensures { result ≡ extension_from s w on }
-{
-    if on {
-        Status {
-            e: w.e,
-            a: w.a,
-            ..s
-        }
-    } else {
-        s
-    }
-}
-
-fn write_control(s: Status, w: Status, on: bool) -> Status
-    ensures { result ≡ control_from s w on }
-{
-    if on {
-        Status {
-            i: w.i,
-            f: w.f,
-            mode: w.mode,
-            ..s
-        }
-    } else {
-        s
-    }
-}
-
-// MSR's write of a value into a record, by value.
+// MSR's write of a value into a record, by value: each field under its bit of the mask.
 #[tactic(auto, using(bits::specs::Cases::cases), unfolding(crate::specs::Status::status_of, crate::specs::Status::written_of))]
 pub fn write_masked(s: Status, value: u32, mask: u32, privileged: bool) -> Status
     ensures { result ≡ written_of s value mask privileged }
 {
     let w = unpack(value);
-    let flags = write_flags(s, w, mask / 8 % 2 == 1);
-    let ge = write_ge(flags, w, (mask / 4 % 2 == 1) & privileged);
-    let extension = write_extension(ge, w, (mask / 2 % 2 == 1) & privileged);
-    write_control(extension, w, (mask % 2 == 1) & privileged)
+    let mut out = s;
+    if mask / 8 % 2 == 1 {
+        out.n = w.n;
+        out.z = w.z;
+        out.c = w.c;
+        out.v = w.v;
+        out.q = w.q;
+    }
+    if (mask / 4 % 2 == 1) & privileged {
+        out.ge = w.ge;
+    }
+    if (mask / 2 % 2 == 1) & privileged {
+        out.e = w.e;
+        out.a = w.a;
+    }
+    if (mask % 2 == 1) & privileged {
+        out.i = w.i;
+        out.f = w.f;
+        out.mode = w.mode;
+    }
+    out
 }
 
 // The same on a record that is lent; what runs calls the one by value.

@@ -16,7 +16,7 @@ use std::array;
 pub fn narrow_ge(ge: u32) -> u8
     ensures { result ≡ ge_byte_of ge }
 {
-    if ge <= 255 { ge as u8 } else { 255 }
+    u8::try_from(ge).unwrap_or(255)
 }
 
 fn read_word(bytes: &[u8; 216], i: u32) -> u32
@@ -86,12 +86,6 @@ fn write_words(bytes: &mut [u8], from: u32, values: &[u32])
     }
 }
 
-fn ge_word(s: Status) -> u32
-    ensures { result ≡ ge_number_of s }
-{
-    s.ge as u32
-}
-
 fn records(m: Machine) -> [Status; 7]
     ensures { result ≡ records_of m }
 {
@@ -108,7 +102,7 @@ fn pack_words(m: Machine) -> [u32; 7]
 fn ge_words(m: Machine) -> [u32; 7]
     ensures { result ≡ map ge_number_of (records_of m) }
 {
-    records(m).map(ge_word)
+    records(m).map(|s| u32::from(s.ge))
 }
 
 fn tag_words(tag: Option<u32>) -> [u32; 2]
