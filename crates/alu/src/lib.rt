@@ -41,7 +41,8 @@ pub fn adc_with_flags(a: u32, b: u32, c: bool) -> Sum
     }
 }
 
-// The difference and 2^32 - 1 more, so that a clear carry is one less.
+// The difference and 2^32 - 1 more, so that a clear carry is one less. Tried as `adc_with_flags(a, !b, c)`: SUB and CMP take an
+// instruction more (rustc -O, x86-64).
 #[tactic(auto, using(bits::specs::Cases::cases, crate::specs::Laws::Sums::sbc_law))]
 pub fn sbc_with_flags(a: u32, b: u32, c: bool) -> Sum
     ensures { result ≡ sbc_of a b c }
@@ -56,6 +57,7 @@ pub fn sbc_with_flags(a: u32, b: u32, c: bool) -> Sum
     }
 }
 
+// ADD, and SUB below: public names of docs/CLAIMS.md, each of which hands a constant on; so are the three saturations.
 #[tactic(auto, using(bits::specs::Cases::cases, crate::specs::Laws::Sums::add_adc))]
 pub fn add_with_flags(a: u32, b: u32) -> Sum
     ensures { result ≡ add_of a b }
@@ -93,6 +95,7 @@ fn saturate(z: i64, low: i64, high: i64) -> Fitted
     }
 }
 
+// Widths are public numbers: a type that holds its bound would ask more of callers.
 #[tactic(auto, using(bits::specs::Cases::cases), unfolding(crate::specs::Saturation::signed_sat_of))]
 pub fn signed_saturate(z: i64, width: u32) -> Fitted
     requires { (0 < width) × (width ≤ 32) }

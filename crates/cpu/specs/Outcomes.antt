@@ -27,6 +27,10 @@ branched regs to = set regs 15 (to / 4 * 4)
 abbrev pub own_of : List ℕ → ℕ
 own_of regs = (get_or regs 15 0 + (2 ^ 32 - 8)) % 2 ^ 32
 
+-- a register read late: r15 is A + 12
+unfoldable pub read_late_of : List ℕ → ℕ → ℕ
+read_late_of regs r = when r == 15 then (get_or regs 15 0 + 4) % 2 ^ 32 else get_or regs r 0
+
 -- an undefined code: the registers stay as they came; D9
 abbrev pub undefined_of : List ℕ → ℕ → Outcome × List ℕ
 undefined_of regs op = (Stop (Undefined (own_of regs) op), regs)

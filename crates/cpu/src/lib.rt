@@ -3,7 +3,7 @@
 
 ghost use Rattle.std.specs.Prelude.{◌≡◌, ◌<◌};
 ghost use Rattle.cpu.specs.Answers.{report, reported, is_done, is_call, bad_of};
-ghost use Rattle.cpu.specs.Outcomes.{flags_of, sticky, undefined_of, done_of, put_of, jumped_of, landed_of, exchanged_of};
+ghost use Rattle.cpu.specs.Outcomes.{flags_of, sticky, read_late_of, undefined_of, done_of, put_of, jumped_of, landed_of, exchanged_of};
 
 use psr::Status;
 
@@ -144,6 +144,19 @@ pub fn set_sticky(on: bool) -> Outcome
         Outcome::Sticky
     } else {
         Outcome::Nothing
+    }
+}
+
+// A register read late: r15 is A + 12.
+#[tactic(auto, using(bits::specs::Cases::cases), unfolding(crate::specs::Outcomes::read_late_of))]
+pub fn read_late(regs: &[u32; 16], r: u32) -> u32
+    requires { r < 16 }
+    ensures { result ≡ read_late_of regs.now r }
+{
+    if r == 15 {
+        regs[15].wrapping_add(4)
+    } else {
+        regs[r as usize]
     }
 }
 

@@ -19,26 +19,14 @@ pub struct Operands {
     pub carry: bool,
 }
 
-// A register read late: r15 is A + 12.
-#[tactic(auto, using(bits::specs::Cases::cases), unfolding(crate::specs::Dataproc::read_of))]
-fn read_late(regs: &[u32; 16], r: u32) -> u32
-    requires { r < 16 }
-    ensures { result ≡ read_of regs.now r true }
-{
-    if r == 15 {
-        regs[15].wrapping_add(4)
-    } else {
-        regs[r as usize]
-    }
-}
-
 // Rn, and a register shifted by a register: all are read late.
+#[tactic(auto, using(bits::specs::Cases::cases, crate::specs::Laws::Operands::read_late))]
 fn read_operands_late(regs: &[u32; 16], op: u32, c: bool) -> Operands
     ensures { result ≡ operands_with (read_of regs.now (op ⟨ 19 ‥ 16 ⟩) true) (late_of regs.now op c) }
 {
-    let first = read_late(regs, op / 65536 % 16);
-    let value = read_late(regs, op % 16);
-    let amount = read_late(regs, op / 256 % 16);
+    let first = cpu::read_late(regs, op / 65536 % 16);
+    let value = cpu::read_late(regs, op % 16);
+    let amount = cpu::read_late(regs, op / 256 % 16);
     let x = shifter::by_register(shifter::shift_type(op / 32 % 4), value, amount % 256, c);
     Operands {
         first,
@@ -58,7 +46,7 @@ fn join_operands(regs: &[u32; 16], op: u32, x: Operand) -> Operands
     }
 }
 
-// The plain register comes before the shifts: it is what most instructions have.
+// The plain register comes before the shifts: it is what most instructions have; so tests in this order, not a `match`.
 fn read_operands(regs: &[u32; 16], op: u32, c: bool) -> Operands
     ensures { result ≡ operands_with (first_of regs.now op) (operand_of regs.now op c) }
 {
@@ -87,7 +75,8 @@ fn as_logical(value: u32, shifter: bool, v: bool) -> Sum
     }
 }
 
-// Operation k.
+// Operation k, one arm for each of Table A3-2. A number: an enum would need a match more on the path of every instruction.
+// c and v go as they are: a pair of them is no plainer, and the definitions take them apart.
 #[tactic(auto, using(bits::specs::Cases::cases), unfolding(crate::specs::Dataproc::result_of))]
 fn compute(k: u32, a: u32, b: u32, shifter: bool, c: bool, v: bool) -> Sum
     ensures { result ≡ result_of k a b shifter c v }
@@ -120,7 +109,8 @@ fn set_flags(regs: &mut [u32; 16], x: Sum) -> Outcome
     cpu::set_flags_of(x.value, x.carry, x.overflow)
 }
 
-// The value of operation k alone: what an instruction without S needs.
+// The value of operation k alone: what an instruction without S needs. The table stands twice for speed: with `compute`
+// for both, these took more machine instructions.
 #[tactic(auto, using(bits::specs::Cases::cases), unfolding(crate::specs::Laws::Places::value_of))]
 fn compute_value(k: u32, a: u32, b: u32, c: bool) -> u32
     ensures { result ≡ value_of k a b c }
@@ -145,7 +135,7 @@ fn compute_value(k: u32, a: u32, b: u32, c: bool) -> u32
     }
 }
 
-// A compare keeps the register.
+// A compare keeps the register: `keep` and `rd < 16` as the definition and `cpu::put` have them.
 #[tactic(auto, using(bits::specs::Cases::cases), unfolding(crate::specs::Laws::Places::put_unless))]
 fn put_unless(keep: bool, regs: &mut [u32; 16], rd: u32, value: u32)
     requires { rd < 16 }
@@ -156,7 +146,7 @@ fn put_unless(keep: bool, regs: &mut [u32; 16], rd: u32, value: u32)
     }
 }
 
-// Where the result goes with S; the flags are set in one place, so that the engine's match over the kind is taken at once.
+// Where the result goes with S: a compare and a result set their flags in one place.
 #[tactic(auto, using(bits::specs::Cases::cases), unfolding(crate::specs::Laws::Places::placed_with_flags))]
 fn place_with_flags(regs: &mut [u32; 16], op: u32, x: Sum) -> Outcome
     ensures { (result, regs.new) ≡ placed_with_flags regs.old op x }

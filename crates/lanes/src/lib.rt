@@ -66,6 +66,7 @@ fn wrap_bits(width: u32, z: i64) -> u32
     bits::low_bits(bits::wrap_word(z), width)
 }
 
+// `sub` is a flag here and below, not a closure: the definitions take it.
 #[tactic(auto, using(bits::specs::Cases::cases), unfolding(crate::specs::Parallel::result_of))]
 fn add_or_subtract(sub: bool, p: i64, q: i64) -> i64
     requires { Within 4294967296 p × Within 4294967296 q }
@@ -74,6 +75,7 @@ fn add_or_subtract(sub: bool, p: i64, q: i64) -> i64
     if sub { p - q } else { p + q }
 }
 
+// Widths are 8 and 16, as numbers: the definitions raise 2 to them, so an enum would be turned back at each place.
 #[tactic(auto, using(bits::specs::Cases::cases, bits::specs::Laws::Range::read_back, crate::specs::Laws::Lanes::lane_heard))]
 fn combine_signed(width: u32, sub: bool, x: u32, y: u32) -> i64
     requires { (0 < width) × (width ≤ 16) × (x < 2 ^ width) × (y < 2 ^ width) }
@@ -374,7 +376,7 @@ pub fn extend(extension: Extension, n: u32, m: u32, rotate: u32) -> u32
     add_extended(extension, n, bits::rotate_right(m, 8 * rotate))
 }
 
-// SSAT and USAT, of the shifted operand.
+// SSAT and USAT, of the shifted operand: two functions, here and for the 16s, since the widths that they take differ.
 pub fn ssat(width: u32, x: u32) -> Fitted
     requires { (0 < width) × (width ≤ 32) }
     ensures { result ≡ ssat_of width x }
@@ -400,7 +402,7 @@ fn beside(low: Fitted, high: Fitted) -> Fitted
     }
 }
 
-// SSAT16 and USAT16: two functions, since the widths that they take differ.
+// SSAT16 and USAT16.
 pub fn ssat16(width: u32, x: u32) -> Fitted
     requires { (0 < width) × (width ≤ 16) }
     ensures { result ≡ ssat16_of width x }

@@ -193,7 +193,7 @@ fn reverse(regs: &mut [u32; 16], op: u32) -> Outcome
     }
 }
 
-// No `match` on numbers: bits 7-5 choose in part by being even.
+// Tests before the `match`: bits 7-5 choose in part by being even.
 #[tactic(auto, using(bits::specs::Cases::cases), unfolding(crate::specs::Media::packing_of))]
 fn pack_sat_extend(regs: &mut [u32; 16], op: u32, ge: u8) -> Outcome
     ensures { (result, regs.new) ≡ packing_of regs.old op ge }
@@ -215,7 +215,7 @@ fn pack_sat_extend(regs: &mut [u32; 16], op: u32, ge: u8) -> Outcome
     }
 }
 
-// SMLAD, SMLSD, SMUAD, SMUSD.
+// SMLAD, SMLSD, SMUAD, SMUSD. This, `smmla` and `usad8` have one shape, but other calls and results: one function is no plainer.
 #[tactic(auto, using(bits::specs::Cases::cases), unfolding(crate::specs::Media::dual_word_of))]
 fn smlad(regs: &mut [u32; 16], op: u32) -> Outcome
     ensures { (result, regs.new) ≡ dual_word_of regs.old op }

@@ -8,6 +8,7 @@ use alu::Fitted;
 use cpu::Outcome;
 use products::Long;
 
+// c and v go as they are, here and below: a pair of them is no plainer, and the definitions take them apart.
 #[tactic(auto, using(bits::specs::Cases::cases), unfolding(crate::specs::Multiply::settled_of))]
 fn settle(regs: &mut [u32; 16], op: u32, value: u32, c: bool, v: bool) -> Outcome
     ensures { (result, regs.new) ≡ settled_of regs.old op value c v }
@@ -101,7 +102,7 @@ pub fn long(regs: &mut [u32; 16], op: u32, c: bool, v: bool) -> Outcome
     }
 }
 
-// A result in register rd that may set Q.
+// A result in register rd that may set Q. The bound stays a clause, as in `cpu::put`: a field of four bits gives it as it is.
 pub fn mark(regs: &mut [u32; 16], rd: u32, x: Fitted) -> Outcome
     requires { rd < 16 }
     ensures { (result, regs.new) ≡ marked_of regs.old rd x }

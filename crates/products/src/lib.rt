@@ -36,6 +36,7 @@ impl From<Long> for u64 {
     }
 }
 
+// Here and below, a product with nothing to add is not its sum with 0: that would add at run time.
 pub fn mul(m: u32, s: u32) -> u32
     ensures { result ≡ mul_of m s }
 {
@@ -62,6 +63,7 @@ pub fn umlal(m: u32, s: u32, sum: Long) -> Long
     Long::from(bits::widening_mul(m, s).wrapping_add(u64::from(sum)))
 }
 
+// Two words are added, not one sum of 64 bits.
 #[tactic(auto, using(bits::specs::Cases::cases), unfolding(crate::specs::Products::umaal_of))]
 pub fn umaal(m: u32, s: u32, lo: u32, hi: u32) -> Long
     ensures { result ≡ umaal_of m s lo hi }
@@ -97,6 +99,7 @@ pub fn smlal(m: u32, s: u32, sum: Long) -> Long
     accumulate(words(m, s), sum)
 }
 
+// Flags, not closures, here and below: `top`, `x`, `y` and `subtract` are bits of the opcode, and the definitions take them.
 #[tactic(auto, using(bits::specs::Cases::cases), unfolding(crate::specs::Products::half_of))]
 fn half(w: u32, top: bool) -> i64
     ensures { (result ≡ half_of w top) × Within (2 ^ 15) result }
@@ -160,6 +163,7 @@ pub fn smlaw(m: u32, s: u32, n: u32, y: bool) -> Fitted
     mark(bits::signed(smulw(m, s, y), 32) + bits::signed(n, 32))
 }
 
+// Not one with `lanes::add_or_subtract`: one `if` under other bounds, and each chapter has its own definition of it.
 #[tactic(auto, using(bits::specs::Cases::cases), unfolding(crate::specs::Products::total_of))]
 fn total(x: i64, y: i64, subtract: bool) -> i64
     requires { Within (2 ^ 32) x × Within (2 ^ 62) y }

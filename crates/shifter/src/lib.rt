@@ -33,7 +33,8 @@ pub fn shift_type(kind: u32) -> ShiftType
     }
 }
 
-// Shifts by 1 to 32 bits: in 64 bits the word and its carry stand side by side.
+// Shifts by 1 to 32 bits: in 64 bits the word and its carry stand side by side. The bound stays a clause in these private
+// functions: a type for it would be built from a test that `by_register` makes as it is.
 #[tactic(auto, using(bits::specs::Cases::cases, crate::specs::Laws::Shifts::left_is))]
 fn shift_left(x: u32, n: u32) -> Operand
     requires { (0 < n) × (n ≤ 32) }
@@ -173,7 +174,7 @@ pub fn immediate(imm8: u32, turns: u32, c: bool) -> Operand
     }
 }
 
-// The two public calls: any numbers, of which the low bits count.
+// The two public calls: any numbers, of which the low bits count; two, as docs/CLAIMS.md names each with its promise.
 pub fn shift_by_immediate(kind: u32, value: u32, amount: u32, carry: bool) -> Operand
     ensures { ShiftsByImmediate kind value amount carry result }
 {

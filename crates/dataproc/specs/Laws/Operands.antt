@@ -1,18 +1,23 @@
 -- The two operands in the code's order of tests.
 use Rattle.std.specs.Prelude.{◌≡◌, Bool, true, false, List, ℕ, ◌/◌, ◌%◌, ◌^◌, get_or}
-use Rattle.std.proofs.Math.Bool.{and-false}
+use Rattle.std.proofs.Math.Bool.{and-false, and-true}
 use native.Mathlib.Omega.{arith}
 use borrow.Author.Tests.{eq-eqb, ne_eqb}
 use Rattle.bits.specs.Cases.{when◌then◌else◌}
 use Rattle.bits.specs.Fields.{◌⟨◌⟩, ◌⟨◌‥◌⟩}
 use Rattle.shifter.specs.declared.Operand.{Operand}
 use Rattle.shifter.specs.Shifts.{operand, type_of, by_immediate_of, by_register_of}
+use Rattle.cpu.specs.Outcomes.{read_late_of}
 use Rattle.dataproc.specs.declared.Operands.{Operands}
 use Rattle.dataproc.specs.Dataproc.{read_of, operand_of, first_of}
 
 pub read_early : (regs : List ℕ) (r : ℕ) → read_of regs r false ≡ get_or regs r 0
 unfolding read_of when◌then◌else◌
 read_early regs r = rw and-false
+
+pub read_late : (regs : List ℕ) (r : ℕ) → read_late_of regs r ≡ read_of regs r true
+unfolding read_of read_late_of when◌then◌else◌
+read_late regs r = rw and-true
 
 -- Rn, and the second operand
 abbrev pub operands_with : ℕ → Operand → Operands
