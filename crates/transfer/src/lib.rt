@@ -44,8 +44,7 @@ pub fn find_address(regs: &[u32; 16], op: u32, moved: u32) -> u32
 pub fn write_back(regs: &mut [u32; 16], op: u32, moved: u32)
     ensures { regs.new ≡ based_of regs.old op moved }
 {
-    let on = !(op / 16777216 % 2 == 1) | (op / 2097152 % 2 == 1);
-    if on {
+    if !(op / 16777216 % 2 == 1) | (op / 2097152 % 2 == 1) {
         regs[(op / 65536 % 16) as usize] = moved;
     }
 }
