@@ -1,4 +1,5 @@
 // Swaps, and loads and stores exclusive, on lent registers and memory.
+// Registers and opcode come hand in hand: the manual's form.
 #![tactic(auto, using(bits::specs::Cases::cases))]
 
 ghost use Rattle.std.specs.Prelude.{◌≡◌, ◌<◌};

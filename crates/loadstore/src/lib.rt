@@ -1,4 +1,5 @@
 // Loads and stores of one register or of a pair, on lent registers and memory.
+// Registers and opcode come hand in hand: the manual's form.
 #![tactic(auto, using(bits::specs::Cases::cases))]
 
 ghost use Rattle.std.specs.Prelude.{◌≡◌, ◌+◌, ◌/◌, ◌%◌, ◌<◌};
@@ -136,7 +137,7 @@ fn find_extra_offset(regs: &[u32; 16], op: u32) -> u32
     }
 }
 
-// A number as a word, by its sign or not.
+// A number as a word, by its sign or not: a flag, as `widened_of` takes it; a closure or two functions would name the same choice twice.
 #[tactic(auto, using(bits::specs::Cases::cases), unfolding(crate::specs::Laws::Loads::widened_of))]
 fn widen(value: u32, width: Width, sign: bool) -> u32
     ensures { result ≡ widened_of width sign value }

@@ -1,4 +1,5 @@
 // What every transfer shares: its width, the base, its move, and write-back.
+// Registers and opcode come hand in hand: the manual's form.
 #![tactic(auto, using(bits::specs::Cases::cases))]
 
 ghost use Rattle.std.specs.Prelude.{◌≡◌};

@@ -48,7 +48,7 @@ pub beside_is : {x : Outcome × List ℕ} {r : Outcome} {g l : List ℕ} → ◌
     → ◌≡◌ {A = Outcome × List ℕ × List ℕ} (r, g, l) (beside x l)
 beside_is {l = l} e = ap (λ (y : Outcome × List ℕ). beside y l) e
 
--- a tested store that was made, with what became of the registers; and one that was refused
+-- a tested store that was made, with what became of the registers; and one that was refused: answers cite them with the store's clause, which `search` does not find
 module _ {r : Result Unit Outside} {m : List ℕ} (f : Option ℕ) (l after regs : List ℕ) (e : ◌≡◌ {A = Result Unit Outside × List ℕ} (r, m) (performed_of f l after)) where
   pub stored_inside : {o : Outcome} {g : List ℕ} {x : Outcome × List ℕ} → r ≡ Ok tt → ◌≡◌ {A = Outcome × List ℕ} (o, g) x
       → ◌≡◌ {A = Outcome × List ℕ × List ℕ} (o, g, m) (guarded_of f regs l (beside x after))
@@ -61,4 +61,4 @@ module _ {r : Result Unit Outside} {m : List ℕ} (f : Option ℕ) (l after regs
   stored_outside a done h = rw (performed_some _ _ _ e _ h, performed_outside _ _ _ e _ h)
 
 -- what a transfer's function is proved by
-pub ruleset guards = (cases, within_ok, within_err, guard_shut, guard_open, guarded_inside, guarded_outside, stored_inside, stored_outside, beside_is)
+pub ruleset guards = (cases, within_ok, within_err, guard_shut, guard_open, guarded_inside, guarded_outside, beside_is)
