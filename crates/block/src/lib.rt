@@ -1,4 +1,5 @@
 // LDM and STM: on lent registers, and with S on the machine by value.
+// Registers and opcode come hand in hand: the manual's form.
 #![tactic(auto, using(bits::specs::Cases::cases))]
 
 ghost use Rattle.std.specs.Prelude.{◌≡◌, ℕ, ◌<◌, length, set};
@@ -10,7 +11,7 @@ ghost use Rattle.block.specs.Laws.Sources.{sources_of, stored_by, Values};
 
 use cpu::{Answer, Machine, Outcome};
 
-// What a transfer is told: its list, the lowest address, and the moved base. That its words lie inside is a fact about the memory too, so clauses say it and not the type.
+// What a transfer is told: its list, the lowest address, and the moved base. That its words lie inside is a fact about the memory too, so clauses say it and not the type. The list is widened by `as`: tried with `from`, whose result is a second name of the list, and the proofs of the loops did not close.
 #[derive(Clone, Copy)]
 pub struct Plan {
     pub list: u16,
@@ -34,7 +35,7 @@ fn find_span(op: u32, list: u16) -> u32
     if op % 65536 == 0 {
         64
     } else {
-        4 * bits::count_ones(list as u32)
+        4 * bits::count_ones(u32::from(list))
     }
 }
 
@@ -50,7 +51,7 @@ fn find_start(regs: &[u32; 16], op: u32, moved: u32) -> u32
     }
 }
 
-// What a load puts its words into, a register at a time.
+// What a load puts its words into, a register at a time. r is a number below 16 as the list gives it; a type for it would be made and unmade at each of a hundred reads.
 trait Registers {
     ghost with: { Self → ℕ → ℕ → Self };
 

@@ -1,4 +1,5 @@
 // Swaps, and loads and stores exclusive, on lent registers and memory.
+// Registers and opcode come hand in hand: the manual's form.
 #![tactic(auto, using(bits::specs::Cases::cases))]
 
 ghost use Rattle.std.specs.Prelude.{◌≡◌, ◌<◌};
@@ -7,6 +8,7 @@ ghost use Rattle.exclusive.specs.Exclusive.{swap_of, width_of, ldrex_of, ldrexd_
 use cpu::{Answer, Outcome};
 use memory::{Outside, Width};
 
+// Loads and stores under one test, so it takes neither `try_load` nor `try_store`: each would test again.
 #[tactic(auto, using(transfer::specs::Laws::Guards::guards), unfolding(crate::specs::Exclusive::swap_of))]
 pub fn swap(regs: &mut [u32; 16], mem: &mut [u8], op: u32) -> Outcome
     ensures { (result, regs.new, mem.new) ≡ swap_of regs.old op mem.old }
@@ -33,7 +35,7 @@ fn size_width(op: u32) -> Width
     }
 }
 
-// A value in a register, r15 by a branch, and the tag.
+// A value in a register, r15 by a branch, and the tag. rd is a number below 16 as the opcode gives it; a type for it would be made and unmade at each of a hundred reads.
 fn give_tagged(regs: &mut [u32; 16], rd: u32, value: u32, at: u32) -> Outcome
     requires { rd < 16 }
     ensures { (result, regs.new) ≡ marked_of regs.old rd value at }
@@ -43,17 +45,14 @@ fn give_tagged(regs: &mut [u32; 16], rd: u32, value: u32, at: u32) -> Outcome
 }
 
 // LDREX, LDREXB, LDREXH.
-#[tactic(auto, using(transfer::specs::Laws::Guards::guards), unfolding(crate::specs::Exclusive::ldrex_of))]
+#[tactic(auto, using(transfer::specs::Laws::Guards::guards), unfolding(crate::specs::Exclusive::ldrex_of, transfer::specs::Transfers::guarded_of))]
 fn load_one(regs: &mut [u32; 16], mem: &[u8], op: u32) -> Outcome
     ensures { (result, regs.new, mem.now) ≡ ldrex_of regs.old op mem.now }
 {
     let at = regs[(op / 65536 % 16) as usize];
-    let width = size_width(op);
-    if memory::reaches_out(mem.len(), at, width.bytes()) {
-        Outcome::Stop(Answer::Bus(at))
-    } else {
-        let value = memory::load(mem, at, width);
-        give_tagged(regs, op / 4096 % 16, value, at)
+    match memory::try_load(mem, at, size_width(op)) {
+        Ok(value) => give_tagged(regs, op / 4096 % 16, value, at),
+        Err(Outside(address)) => Outcome::Stop(Answer::Bus(address)),
     }
 }
 
@@ -93,19 +92,14 @@ fn fail(regs: &mut [u32; 16], op: u32) -> Outcome
 }
 
 // STREX, STREXB, STREXH.
-#[tactic(auto, using(transfer::specs::Laws::Guards::guards), unfolding(crate::specs::Exclusive::strex_of))]
 fn store_one(regs: &mut [u32; 16], mem: &mut [u8], op: u32, tag: Option<u32>) -> Outcome
     ensures { (result, regs.new, mem.new) ≡ strex_of regs.old op tag mem.old }
 {
     let at = regs[(op / 65536 % 16) as usize];
     if tag == Some(at) {
-        let width = size_width(op);
-        if memory::reaches_out(mem.len(), at, width.bytes()) {
-            Outcome::Stop(Answer::Bus(at))
-        } else {
-            let value = regs[(op % 16) as usize];
-            memory::store(mem, at, width, value);
-            succeed(regs, op)
+        match memory::try_store(mem, at, size_width(op), regs[(op % 16) as usize]) {
+            Ok(()) => succeed(regs, op),
+            Err(Outside(address)) => Outcome::Stop(Answer::Bus(address)),
         }
     } else {
         fail(regs, op)

@@ -1,14 +1,31 @@
 // Loads and stores of one register or of a pair, on lent registers and memory.
+// Registers and opcode come hand in hand: the manual's form.
 #![tactic(auto, using(bits::specs::Cases::cases))]
 
-ghost use Rattle.std.specs.Prelude.{◌≡◌, ◌+◌, ◌/◌, ◌%◌, ◌<◌, ◌≤◌, length};
-ghost use Rattle.memory.specs.Bytes.{bytes_of};
-ghost use Rattle.loadstore.specs.Single.{offset_of, taken_of, load_of, source_of, store_of, single_at, single_of};
+ghost use Rattle.std.specs.Prelude.{◌≡◌, ◌+◌, ◌/◌, ◌%◌, ◌<◌};
+ghost use Rattle.loadstore.specs.Single.{offset_of, taken_of, source_of, single_at, single_of};
 ghost use Rattle.loadstore.specs.Extra.{extra_offset_of, extra_loads_of, strh_of, ldrd_of, strd_of, extra_at, extra_of};
-ghost use Rattle.loadstore.specs.Laws.Loads.{widened_of, wide_load_of};
+ghost use Rattle.loadstore.specs.Laws.Loads.{place_of, tested_load_of, widened_of, wide_load_of, tested_store_of};
 
 use cpu::{Answer, Outcome};
 use memory::{Outside, Width};
+
+// Where a transfer is: its access, and the moved base.
+#[derive(Clone, Copy)]
+struct Place {
+    moved: u32,
+    at: u32,
+}
+
+impl Place {
+    fn find(regs: &[u32; 16], op: u32, offset: u32) -> Place
+        ensures { result ≡ place_of regs.now op offset }
+    {
+        let moved = transfer::move_base(regs, op, offset);
+        let at = transfer::find_address(regs, op, moved);
+        Place { moved, at }
+    }
+}
 
 // The offset of LDR and STR.
 #[tactic(auto, using(bits::specs::Cases::cases), unfolding(crate::specs::Single::offset_of))]
@@ -16,13 +33,13 @@ fn find_offset(regs: &[u32; 16], op: u32, c: bool) -> u32
     ensures { result ≡ offset_of regs.now op c }
 {
     if op / 33554432 % 2 == 1 {
-        let x = shifter::by_immediate(
+        shifter::by_immediate(
             shifter::shift_type(op / 32 % 4),
             regs[(op % 16) as usize],
             op / 128 % 32,
             c,
-        );
-        x.value
+        )
+        .value
     } else {
         op % 4096
     }
@@ -55,41 +72,47 @@ fn take(regs: &mut [u32; 16], op: u32, value: u32) -> Outcome
 }
 
 // The base comes before the load: where it is the destination, it keeps what was loaded.
-fn load_one(regs: &mut [u32; 16], op: u32, base: u32, value: u32) -> Outcome
-    ensures { (result, regs.new) ≡ load_of regs.old op base value }
+#[tactic(auto, using(transfer::specs::Laws::Guards::guards))]
+fn load_one(regs: &mut [u32; 16], op: u32, mem: &mut [u8], place: Place, width: Width) -> Outcome
+    ensures { (result, regs.new, mem.new) ≡ tested_load_of regs.old op mem.old place.moved place.at width }
 {
-    transfer::write_back(regs, op, base);
-    take(regs, op, value)
+    match memory::try_load(mem, place.at, width) {
+        Ok(value) => {
+            transfer::write_back(regs, op, place.moved);
+            take(regs, op, value)
+        }
+        Err(Outside(address)) => Outcome::Stop(Answer::Bus(address)),
+    }
 }
 
 fn store_one(
     regs: &mut [u32; 16],
     op: u32,
     mem: &mut [u8],
-    moved: u32,
-    at: u32,
+    place: Place,
     width: Width,
     value: u32,
 ) -> Outcome
-    requires { at + bytes_of width ≤ length mem.old }
-    ensures { (result, regs.new, mem.new) ≡ store_of regs.old op mem.old moved at width value }
+    ensures { (result, regs.new, mem.new) ≡ tested_store_of regs.old op mem.old place.moved place.at width value }
 {
-    memory::store(mem, at, width, value);
-    transfer::write_back(regs, op, moved);
-    cpu::finish(regs)
+    match memory::try_store(mem, place.at, width, value) {
+        Ok(()) => {
+            transfer::write_back(regs, op, place.moved);
+            cpu::finish(regs)
+        }
+        Err(Outside(address)) => Outcome::Stop(Answer::Bus(address)),
+    }
 }
 
 #[tactic(auto, using(transfer::specs::Laws::Guards::guards), unfolding(crate::specs::Single::single_at))]
-fn move_single(regs: &mut [u32; 16], op: u32, mem: &mut [u8], moved: u32, at: u32) -> Outcome
-    ensures { (result, regs.new, mem.new) ≡ single_at regs.old op mem.old moved at }
+fn move_single(regs: &mut [u32; 16], op: u32, mem: &mut [u8], place: Place) -> Outcome
+    ensures { (result, regs.new, mem.new) ≡ single_at regs.old op mem.old place.moved place.at }
 {
     let width = transfer::find_width(op);
-    if memory::reaches_out(mem.len(), at, width.bytes()) {
-        Outcome::Stop(Answer::Bus(at))
-    } else if op / 1048576 % 2 == 1 {
-        load_one(regs, op, moved, memory::load(mem, at, width))
+    if op / 1048576 % 2 == 1 {
+        load_one(regs, op, mem, place, width)
     } else {
-        store_one(regs, op, mem, moved, at, width, read_source(regs, op))
+        store_one(regs, op, mem, place, width, read_source(regs, op))
     }
 }
 
@@ -98,9 +121,8 @@ fn move_single(regs: &mut [u32; 16], op: u32, mem: &mut [u8], moved: u32, at: u3
 pub fn single(regs: &mut [u32; 16], op: u32, c: bool, mem: &mut [u8]) -> Outcome
     ensures { (result, regs.new, mem.new) ≡ single_of regs.old op c mem.old }
 {
-    let moved = transfer::move_base(regs, op, find_offset(regs, op, c));
-    let at = transfer::find_address(regs, op, moved);
-    move_single(regs, op, mem, moved, at)
+    let place = Place::find(regs, op, find_offset(regs, op, c));
+    move_single(regs, op, mem, place)
 }
 
 // The offset of the others.
@@ -115,7 +137,7 @@ fn find_extra_offset(regs: &[u32; 16], op: u32) -> u32
     }
 }
 
-// A number as a word, by its sign or not.
+// A number as a word, by its sign or not: a flag, as `widened_of` takes it; a closure or two functions would name the same choice twice.
 #[tactic(auto, using(bits::specs::Cases::cases), unfolding(crate::specs::Laws::Loads::widened_of))]
 fn widen(value: u32, width: Width, sign: bool) -> u32
     ensures { result ≡ widened_of width sign value }
@@ -133,97 +155,84 @@ fn load_wide(
     regs: &mut [u32; 16],
     op: u32,
     mem: &mut [u8],
-    moved: u32,
-    at: u32,
+    place: Place,
     width: Width,
     sign: bool,
 ) -> Outcome
-    ensures { (result, regs.new, mem.new) ≡ wide_load_of regs.old op mem.old moved at width sign }
+    ensures { (result, regs.new, mem.new) ≡ wide_load_of regs.old op mem.old place.moved place.at width sign }
 {
-    if memory::reaches_out(mem.len(), at, width.bytes()) {
-        Outcome::Stop(Answer::Bus(at))
-    } else {
-        let value = widen(memory::load(mem, at, width), width, sign);
-        transfer::write_back(regs, op, moved);
-        cpu::land(regs, op / 4096 % 16, value)
+    match memory::try_load(mem, place.at, width) {
+        Ok(value) => {
+            transfer::write_back(regs, op, place.moved);
+            cpu::land(regs, op / 4096 % 16, widen(value, width, sign))
+        }
+        Err(Outside(address)) => Outcome::Stop(Answer::Bus(address)),
     }
 }
 
 // LDRH, LDRSB and LDRSH.
 #[tactic(auto, using(bits::specs::Cases::cases), unfolding(crate::specs::Extra::extra_loads_of, crate::specs::Laws::Loads::widened_of))]
-fn load_extra(regs: &mut [u32; 16], op: u32, mem: &mut [u8], moved: u32, at: u32) -> Outcome
-    ensures { (result, regs.new, mem.new) ≡ extra_loads_of regs.old op mem.old moved at }
+fn load_extra(regs: &mut [u32; 16], op: u32, mem: &mut [u8], place: Place) -> Outcome
+    ensures { (result, regs.new, mem.new) ≡ extra_loads_of regs.old op mem.old place.moved place.at }
 {
-    if op / 32 % 4 == 1 {
-        load_wide(regs, op, mem, moved, at, Width::Half, false)
-    } else if op / 32 % 4 == 2 {
-        load_wide(regs, op, mem, moved, at, Width::Byte, true)
-    } else {
-        load_wide(regs, op, mem, moved, at, Width::Half, true)
+    match op / 32 % 4 {
+        1 => load_wide(regs, op, mem, place, Width::Half, false),
+        2 => load_wide(regs, op, mem, place, Width::Byte, true),
+        _ => load_wide(regs, op, mem, place, Width::Half, true),
     }
 }
 
 // STRH.
-#[tactic(auto, using(transfer::specs::Laws::Guards::guards))]
-fn store_half(regs: &mut [u32; 16], op: u32, mem: &mut [u8], moved: u32, at: u32) -> Outcome
-    ensures { (result, regs.new, mem.new) ≡ strh_of regs.old op mem.old moved at }
+fn store_half(regs: &mut [u32; 16], op: u32, mem: &mut [u8], place: Place) -> Outcome
+    ensures { (result, regs.new, mem.new) ≡ strh_of regs.old op mem.old place.moved place.at }
 {
-    if memory::reaches_out(mem.len(), at, 2) {
-        Outcome::Stop(Answer::Bus(at))
-    } else {
-        let value = regs[(op / 4096 % 16) as usize];
-        store_one(regs, op, mem, moved, at, Width::Half, value)
-    }
+    let value = regs[(op / 4096 % 16) as usize];
+    store_one(regs, op, mem, place, Width::Half, value)
 }
 
 // LDRD.
 #[tactic(auto, using(transfer::specs::Laws::Guards::guards), unfolding(transfer::specs::Transfers::guarded_of))]
-fn load_pair(regs: &mut [u32; 16], op: u32, mem: &mut [u8], moved: u32, at: u32) -> Outcome
+fn load_pair(regs: &mut [u32; 16], op: u32, mem: &mut [u8], place: Place) -> Outcome
     requires { op / 4096 % 16 < 15 }
-    ensures { (result, regs.new, mem.new) ≡ ldrd_of regs.old op mem.old moved at }
+    ensures { (result, regs.new, mem.new) ≡ ldrd_of regs.old op mem.old place.moved place.at }
 {
-    match memory::load_pair(mem, at) {
+    match memory::load_pair(mem, place.at) {
         Ok((low, high)) => {
-            transfer::write_back(regs, op, moved);
+            transfer::write_back(regs, op, place.moved);
             regs[(op / 4096 % 16) as usize] = low;
             cpu::land(regs, op / 4096 % 16 + 1, high)
         }
-        Err(Outside(a)) => Outcome::Stop(Answer::Bus(a)),
+        Err(Outside(address)) => Outcome::Stop(Answer::Bus(address)),
     }
 }
 
 // STRD.
-fn store_pair(regs: &mut [u32; 16], op: u32, mem: &mut [u8], moved: u32, at: u32) -> Outcome
+fn store_pair(regs: &mut [u32; 16], op: u32, mem: &mut [u8], place: Place) -> Outcome
     requires { op / 4096 % 16 < 15 }
-    ensures { (result, regs.new, mem.new) ≡ strd_of regs.old op mem.old moved at }
+    ensures { (result, regs.new, mem.new) ≡ strd_of regs.old op mem.old place.moved place.at }
 {
     let low = regs[(op / 4096 % 16) as usize];
     let high = regs[(op / 4096 % 16 + 1) as usize];
-    match memory::store_pair(mem, at, low, high) {
+    match memory::store_pair(mem, place.at, low, high) {
         Ok(()) => {
-            transfer::write_back(regs, op, moved);
+            transfer::write_back(regs, op, place.moved);
             cpu::finish(regs)
         }
-        Err(Outside(a)) => Outcome::Stop(Answer::Bus(a)),
+        Err(Outside(address)) => Outcome::Stop(Answer::Bus(address)),
     }
 }
 
 #[tactic(auto, using(bits::specs::Cases::cases), unfolding(crate::specs::Extra::extra_at))]
-fn move_extra(regs: &mut [u32; 16], op: u32, mem: &mut [u8], moved: u32, at: u32) -> Outcome
-    ensures { (result, regs.new, mem.new) ≡ extra_at regs.old op mem.old moved at }
+fn move_extra(regs: &mut [u32; 16], op: u32, mem: &mut [u8], place: Place) -> Outcome
+    ensures { (result, regs.new, mem.new) ≡ extra_at regs.old op mem.old place.moved place.at }
 {
-    if op / 32 % 4 == 0 {
-        Outcome::Stop(Answer::TransferForm(op))
-    } else if op / 1048576 % 2 == 1 {
-        load_extra(regs, op, mem, moved, at)
-    } else if op / 32 % 4 == 1 {
-        store_half(regs, op, mem, moved, at)
-    } else if op / 4096 % 16 == 15 {
-        cpu::refuse(regs, op)
-    } else if op / 32 % 4 == 2 {
-        load_pair(regs, op, mem, moved, at)
-    } else {
-        store_pair(regs, op, mem, moved, at)
+    match op / 32 % 4 {
+        0 => Outcome::Stop(Answer::TransferForm(op)),
+        _ if op / 1048576 % 2 == 1 => load_extra(regs, op, mem, place),
+        1 => store_half(regs, op, mem, place),
+        _ if op / 4096 % 16 == 15 => cpu::refuse(regs, op),
+        2 => load_pair(regs, op, mem, place),
+        _ => store_pair(regs, op, mem, place),
     }
 }
 
@@ -232,7 +241,6 @@ fn move_extra(regs: &mut [u32; 16], op: u32, mem: &mut [u8], moved: u32, at: u32
 pub fn extra(regs: &mut [u32; 16], op: u32, mem: &mut [u8]) -> Outcome
     ensures { (result, regs.new, mem.new) ≡ extra_of regs.old op mem.old }
 {
-    let moved = transfer::move_base(regs, op, find_extra_offset(regs, op));
-    let at = transfer::find_address(regs, op, moved);
-    move_extra(regs, op, mem, moved, at)
+    let place = Place::find(regs, op, find_extra_offset(regs, op));
+    move_extra(regs, op, mem, place)
 }

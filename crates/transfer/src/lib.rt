@@ -1,4 +1,5 @@
 // What every transfer shares: its width, the base, its move, and write-back.
+// Registers and opcode come hand in hand: the manual's form.
 #![tactic(auto, using(bits::specs::Cases::cases))]
 
 ghost use Rattle.std.specs.Prelude.{◌≡◌};
@@ -44,8 +45,7 @@ pub fn find_address(regs: &[u32; 16], op: u32, moved: u32) -> u32
 pub fn write_back(regs: &mut [u32; 16], op: u32, moved: u32)
     ensures { regs.new ≡ based_of regs.old op moved }
 {
-    let on = !(op / 16777216 % 2 == 1) | (op / 2097152 % 2 == 1);
-    if on {
+    if !(op / 16777216 % 2 == 1) | (op / 2097152 % 2 == 1) {
         regs[(op / 65536 % 16) as usize] = moved;
     }
 }

@@ -1,7 +1,6 @@
 use Rattle.bits.specs.Cases.{when◌then◌else◌}
-use Rattle.memory.specs.Laws.Plans.{performed_none, performed_some, performed_inside, performed_outside}
 use Rattle.exclusive.specs.Exclusive.{strexd_of}
-use Rattle.transfer.specs.Laws.Guards.{guarded_inside, guarded_outside, beside_is}
+use Rattle.transfer.specs.Laws.Guards.{stored_inside, stored_outside, beside_is}
 use Rattle.std.proofs.Common.{sym, ◌∙◌, ne_eqb}
 use Rattle.exclusive.proofs.store_pair.Goals as goal
 
@@ -12,16 +11,14 @@ returns-then-rm-eq15 c = rw c.if-rm-eq15.true (beside_is c.refuse.ensures)
 pub returns-in-Ok : goal.returns-in-Ok
 unfolding strexd_of when◌then◌else◌
 returns-in-Ok c =
-    let a = c.args in
-    rw (ne_eqb _ _ c.if-rm-eq15.false, sym c.eq.ensures ∙ c.if-eq.true, performed_inside _ _ _ c.store_pair.ensures c.in-Ok.is)
-    (beside_is c.succeed.ensures ∙ sym (guarded_inside a.regs.now a.mem.now _ _ (performed_none _ _ _ c.store_pair.ensures c.in-Ok.is)))
+    rw (ne_eqb _ _ c.if-rm-eq15.false, sym c.eq.ensures ∙ c.if-eq.true)
+    (stored_inside _ _ _ _ c.store_pair.ensures c.in-Ok.is c.succeed.ensures)
 
 pub returns-in-Err : goal.returns-in-Err
 unfolding strexd_of when◌then◌else◌
 returns-in-Err c =
-    let a = c.args in
-    rw (ne_eqb _ _ c.if-rm-eq15.false, sym c.eq.ensures ∙ c.if-eq.true, performed_outside _ _ _ c.store_pair.ensures _ c.in-Err.is)
-    (sym (guarded_outside a.regs.now a.mem.now _ _ _ (performed_some _ _ _ c.store_pair.ensures _ c.in-Err.is)))
+    rw (ne_eqb _ _ c.if-rm-eq15.false, sym c.eq.ensures ∙ c.if-eq.true)
+    (stored_outside _ _ _ _ c.store_pair.ensures _ _ c.in-Err.is)
 
 pub returns-else-eq : goal.returns-else-eq
 unfolding strexd_of when◌then◌else◌

@@ -1,9 +1,10 @@
 -- The guard of a transfer as the code tests it, and memory beside a family that leaves it alone.
-use Rattle.std.specs.Prelude.{◌≡◌, refl, true, false, Option, Some, None, List, ℕ, get_or}
+use Rattle.std.specs.Prelude.{◌≡◌, refl, true, false, Option, Some, None, Result, Ok, Err, List, ℕ, get_or}
 use Rattle.std.proofs.Common.{ap}
 use Rattle.bits.specs.Cases.{when◌then◌else◌, cases}
-use Rattle.memory.specs.Plans.{reaches_out, outside_of}
-use Rattle.memory.specs.Laws.Plans.{out_one, within_ok, within_err}
+use Rattle.memory.specs.declared.Outside.{Outside}
+use Rattle.memory.specs.Plans.{reaches_out, outside_of, performed_of}
+use Rattle.memory.specs.Laws.Plans.{out_one, within_ok, within_err, performed_none, performed_some, performed_inside, performed_outside}
 use Rattle.cpu.specs.declared.Outcome.{Outcome}
 use Rattle.cpu.specs.declared.Answer.TheVariants.{Bus}
 use Rattle.cpu.specs.declared.Outcome.TheVariants.{Stop}
@@ -46,6 +47,18 @@ module _ (len at width : ℕ) (regs l : List ℕ) (done : Outcome × List ℕ ×
 pub beside_is : {x : Outcome × List ℕ} {r : Outcome} {g l : List ℕ} → ◌≡◌ {A = Outcome × List ℕ} (r, g) x
     → ◌≡◌ {A = Outcome × List ℕ × List ℕ} (r, g, l) (beside x l)
 beside_is {l = l} e = ap (λ (y : Outcome × List ℕ). beside y l) e
+
+-- a tested store that was made, with what became of the registers; and one that was refused: answers cite them with the store's clause, which `search` does not find
+module _ {r : Result Unit Outside} {m : List ℕ} (f : Option ℕ) (l after regs : List ℕ) (e : ◌≡◌ {A = Result Unit Outside × List ℕ} (r, m) (performed_of f l after)) where
+  pub stored_inside : {o : Outcome} {g : List ℕ} {x : Outcome × List ℕ} → r ≡ Ok tt → ◌≡◌ {A = Outcome × List ℕ} (o, g) x
+      → ◌≡◌ {A = Outcome × List ℕ × List ℕ} (o, g, m) (guarded_of f regs l (beside x after))
+  unfolding guarded_of
+  stored_inside h k = rw (performed_none _ _ _ e h, performed_inside _ _ _ e h) (beside_is k)
+
+  pub stored_outside : (a : Outside) (done : Outcome × List ℕ × List ℕ) → r ≡ Err a
+      → ◌≡◌ {A = Outcome × List ℕ × List ℕ} (Stop (Bus a.0), regs, m) (guarded_of f regs l done)
+  unfolding guarded_of
+  stored_outside a done h = rw (performed_some _ _ _ e _ h, performed_outside _ _ _ e _ h)
 
 -- what a transfer's function is proved by
 pub ruleset guards = (cases, within_ok, within_err, guard_shut, guard_open, guarded_inside, guarded_outside, beside_is)

@@ -1,0 +1,8 @@
+use Rattle.transfer.specs.Laws.Guards.{stored_inside, stored_outside, guards}
+use Rattle.loadstore.proofs.store_one.Goals as goal
+
+pub returns-in-Ok : goal.returns-in-Ok
+returns-in-Ok c = stored_inside _ _ _ _ c.try_store.ensures c.in-Ok.is (search (guards, c.finish.ensures))
+
+pub returns-in-Err : goal.returns-in-Err
+returns-in-Err c = stored_outside _ _ _ _ c.try_store.ensures _ _ c.in-Err.is
