@@ -76,6 +76,7 @@ fn refuse(m: Machine, at: u32, answer: Answer, count: u32) -> Finished
 }
 
 // At most budget steps of a machine that the gate admits, which changes in place: each arm of the match ends a step.
+// A budget used up is `Answer::Done`, which is what a step answers, being a run of one; an Option here would need another struct for one caller.
 fn go(m: Machine, mem: &mut [u8], given: Option<u32>, budget: u32) -> Finished
     requires { gate_of m (length mem.old) ≡ Ok tt }
     ensures { Goes given budget m mem.old (result, mem.new) }

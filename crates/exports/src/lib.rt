@@ -9,10 +9,11 @@ use cpu::{Machine, Report};
 use engine::{Finished, Stepped};
 use shifter::Operand;
 
+// Two numbers in the one that C takes; the halves of a product in products are one number, and no part of this interface.
 fn join_halves(high: u32, low: u32) -> u64
     ensures { result ≡ halves high low }
 {
-    (high as u64) * 0x1_0000_0000 + low as u64
+    u64::from(high) * 0x1_0000_0000 + u64::from(low)
 }
 
 #[tactic(auto, unfolding(crate::specs::Calls::pack_call_of))]
@@ -56,6 +57,7 @@ pub fn tholungdek_shift_register(kind: u32, value: u32, amount: u32, carry: bool
     join_operand(shifter::shift_by_register(kind, value, amount, carry))
 }
 
+// `changed` is the condition of `written_state`, from two kinds of answer; an `if` at both callers would be no plainer.
 #[tactic(auto, using(bits::specs::Cases::cases), unfolding(crate::specs::Steps::written_state))]
 fn write_state(bytes: &mut [u8; 216], m: Machine, changed: bool)
     ensures { bytes.new ≡ written_state changed m bytes.old }

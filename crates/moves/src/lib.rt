@@ -8,7 +8,7 @@ ghost use Rattle.moves.specs.Moves.{mrs_of, msr_value_of, msr_of, cps_status_of,
 use cpu::Machine;
 use psr::Status;
 
-// The saved record where `saved`, else the current one.
+// The saved record where `saved`, else the current one; the flag is bit 22, and only MRS reads the record it names.
 fn choose_record(m: Machine, saved: bool) -> Status
     ensures { result ≡ (when saved then m.spsr else m.cpsr) }
 {
@@ -55,7 +55,7 @@ fn msr(m: Machine, op: u32) -> Machine
     }
 }
 
-// bit 18 where `named`, else as it was.
+// Bit 18 where `named`, else as it was; the flag is the mask's own bit of the opcode, for each of A, I and F.
 fn set_mask(named: bool, disable: bool, before: bool) -> bool
     ensures { result ≡ (when named then disable else before) }
 {

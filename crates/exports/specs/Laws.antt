@@ -1,0 +1,2 @@
+-- Laws that proofs cite; nothing here has to be believed.
+pub mod Measured
