@@ -31,7 +31,7 @@ struct Listed {
     count: u32,
 }
 
-// `step`, `fetch` or `run`; the rest of the first word says only where the answer is from.
+// `step`, `fetch` or `run`; the rest of the first word says only where the answer is from. A `TryFrom` would need an error that nobody reads.
 fn call_of(letter: u8) -> Option<Call> {
     match letter {
         b's' => Some(Call::Step),
@@ -111,7 +111,7 @@ fn read_after(line: &mut Cursor, head: &Head, before: &Scene, after: &mut Scene)
     if line.has_end() { Some(listed) } else { None }
 }
 
-// A step has no count.
+// A step has no count; a `From` would stand in engine, for this program alone.
 fn uncounted(s: Stepped) -> Finished {
     Finished {
         machine: s.machine,

@@ -58,7 +58,7 @@ fn list_buffer() -> [u8; 524288]
     [0; 524288]
 }
 
-// Room for the longest memory, and a byte more; fixed like the list's.
+// Room for the longest memory, and a byte more; fixed like the list's. A function for each, since `main` with the literals did not prove in time.
 fn memory_buffer() -> [u8; 65537] {
     [0; 65537]
 }

@@ -16,6 +16,7 @@ pub struct Page {
     pub cpsr: u32,
 }
 
+// Field by field, as the definition has it: `psr::unpack(0x1F)` was tried, and the proof did not close.
 fn default_status() -> Status
     ensures { result ≡ default_status }
 {
