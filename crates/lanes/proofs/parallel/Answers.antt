@@ -3,23 +3,19 @@ use Rattle.lanes.proofs.parallel.Goals as goal
 
 pub returns-in-Add16 : goal.returns-in-Add16
 unfolding parallel_of
-returns-in-Add16 c =
-    (rw (c.in-Add16.is, c.halfwise.ensures.0, c.half_of-t.ensures.0, c.half_of-s.ensures.0, c.half_of-q.ensures.0, c.half_of-p.ensures.0), c.halfwise.ensures.1)
+returns-in-Add16 c = (rw (c.in-Add16.is, c.halfwise.ensures.0), c.halfwise.ensures.1)
 
 pub returns-in-Asx : goal.returns-in-Asx
 unfolding parallel_of
-returns-in-Asx c =
-    (rw (c.in-Asx.is, c.halfwise-in-Asx.ensures.0, c.half_of-t.ensures.0, c.half_of-s.ensures.0, c.half_of-q.ensures.0, c.half_of-p.ensures.0), c.halfwise-in-Asx.ensures.1)
+returns-in-Asx c = (rw (c.in-Asx.is, c.halfwise-in-Asx.ensures.0, c.exchange.ensures.0, c.exchange.ensures.1), c.halfwise-in-Asx.ensures.1)
 
 pub returns-in-Sax : goal.returns-in-Sax
 unfolding parallel_of
-returns-in-Sax c =
-    (rw (c.in-Sax.is, c.halfwise-in-Sax.ensures.0, c.half_of-t.ensures.0, c.half_of-s.ensures.0, c.half_of-q.ensures.0, c.half_of-p.ensures.0), c.halfwise-in-Sax.ensures.1)
+returns-in-Sax c = (rw (c.in-Sax.is, c.halfwise-in-Sax.ensures.0, c.exchange-in-Sax.ensures.0, c.exchange-in-Sax.ensures.1), c.halfwise-in-Sax.ensures.1)
 
 pub returns-in-Sub16 : goal.returns-in-Sub16
 unfolding parallel_of
-returns-in-Sub16 c =
-    (rw (c.in-Sub16.is, c.halfwise-in-Sub16.ensures.0, c.half_of-t.ensures.0, c.half_of-s.ensures.0, c.half_of-q.ensures.0, c.half_of-p.ensures.0), c.halfwise-in-Sub16.ensures.1)
+returns-in-Sub16 c = (rw (c.in-Sub16.is, c.halfwise-in-Sub16.ensures.0), c.halfwise-in-Sub16.ensures.1)
 
 pub returns-in-Add8 : goal.returns-in-Add8
 unfolding parallel_of
