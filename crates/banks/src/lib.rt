@@ -177,6 +177,7 @@ pub fn branch_to(m: Machine, to: u32) -> Machine
 }
 
 // A data operation with S into r15.
+// Out of the dispatcher, whose registers are then kept for what is often met.
 #[tactic(auto, using(bits::specs::Cases::cases), unfolding(crate::specs::Banks::returned_of))]
 #[cold]
 #[inline(never)]

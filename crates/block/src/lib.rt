@@ -133,6 +133,7 @@ impl Plan {
     }
 
     // The values of the listed registers, in transfer order; no register is looked at behind the last of the list.
+    // It has two callers, so LLVM would not inline it.
     #[inline(always)]
     fn store_listed(self, values: &[u32; 16], mem: &mut [u8])
         requires { found_of self (length mem.old) ≡ None }
@@ -152,7 +153,7 @@ impl Plan {
         }
     }
 
-    // The words into the listed registers, in transfer order.
+    // The words into the listed registers, in transfer order; all sixteen are looked at, since the loop is then written out.
     fn load_listed<R: Registers>(self, to: &mut R, mem: &[u8])
         requires { found_of self (length mem.now) ≡ None }
         ensures { to.new ≡ loaded_list_of self R.with to.old mem.now }
@@ -160,9 +161,6 @@ impl Plan {
         let mut rest = self.list as u32;
         let mut a = self.start;
         for i in 0..16 {
-            if rest == 0 {
-                break;
-            }
             if rest % 2 == 1 {
                 to.put(i, memory::read32(mem, a));
                 a = a.wrapping_add(4);
@@ -295,6 +293,7 @@ fn move_user(m: Machine, op: u32, p: Plan, mem: &mut [u8]) -> Machine
 }
 
 // With S, on the machine by value: the machine afterwards, or answer 7, and memory as it was.
+// Out of the dispatcher, whose registers are then kept for what is often met.
 #[cold]
 #[inline(never)]
 pub fn transfer_user(m: Machine, op: u32, mem: &mut [u8]) -> Result<Machine, Answer>

@@ -45,6 +45,7 @@ fn multiply_or_swap(hi: u32) -> Family
             Family::Swap
         }
     } else {
+        // A guard, since of `0 | 1` LLVM makes a number that the match over the families then reads.
         match hi / 2 % 8 {
             kind if kind < 2 => Family::MultiplyShort,
             3 => Family::Undefined,
@@ -87,7 +88,7 @@ fn operation_space(hi: u32, lo: u32) -> Family
     }
 }
 
-// Bit 4 comes before bit 7: most operations have it clear.
+// Bit 4 comes before bit 7: most operations have it clear. Joined by `&&` both would be looked at each time.
 #[tactic(auto, using(bits::specs::Cases::cases), unfolding(crate::specs::Families::register_space_of))]
 fn register_space(hi: u32, lo: u32) -> Family
     ensures { result ≡ register_space_of hi lo }

@@ -5,7 +5,7 @@ ghost use Rattle.std.specs.Prelude.{◌≡◌, pos, ◌+ℤ◌, ◌+◌, ◌*◌
 ghost use Rattle.bits.specs.Cases.{when◌then◌else◌};
 ghost use Rattle.bits.specs.Integers.{wrap};
 ghost use Rattle.bits.specs.Laws.Range.{Within};
-ghost use Rattle.lanes.specs.Parallel.{result_of, signed_of, unsigned_of, wrapped_of, kept_of, halved_of, unsigned_from, lane_of, sets_ge, ge_of, halves_of, bytes_of, bytewise_of, parallel_of};
+ghost use Rattle.lanes.specs.Parallel.{result_of, signed_of, unsigned_of, wrapped_of, kept_of, halved_of, unsigned_from, lane_of, low_of, high_of, sets_ge, ge_of, halves_of, bytes_of, bytewise_of, parallel_of};
 ghost use Rattle.lanes.specs.Bytes.{sel_of, distances_of, usad8_of, usada8_of};
 ghost use Rattle.lanes.specs.Packing.{pkhbt_of, pkhtb_of, added_halves, added_of, extend_of};
 ghost use Rattle.lanes.specs.Saturation.{ssat_of, usat_of, ssat16_of, usat16_of, beside_of};
@@ -164,10 +164,17 @@ fn combine(variant: Variant, width: u32, sub: bool, x: u32, y: u32) -> Lane
     }
 }
 
-fn half_of(low: u8, high: u8) -> u32
-    ensures { (result ≡ low + high * 2 ^ 8) × (result < 2 ^ 16) }
+// Bits 15-0 and 31-16 of a word of four bytes.
+fn low_of(w: [u8; 4]) -> u32
+    ensures { (result ≡ low_of w) × (result < 2 ^ 16) }
 {
-    u32::from(u16::from_le_bytes([low, high]))
+    u32::from(u16::from_le_bytes([w[0], w[1]]))
+}
+
+fn high_of(w: [u8; 4]) -> u32
+    ensures { (result ≡ high_of w) × (result < 2 ^ 16) }
+{
+    u32::from(u16::from_le_bytes([w[2], w[3]]))
 }
 
 fn join_ge(a: bool, b: bool, c: bool, d: bool) -> u8
@@ -227,23 +234,21 @@ fn bytewise(variant: Variant, sub: bool, n: [u8; 4], m: [u8; 4]) -> Combined
     )
 }
 
-// The low lane of p and q, the high one of s and t.
-fn halfwise(
-    variant: Variant,
-    sublow: bool,
-    p: u32,
-    q: u32,
-    subhigh: bool,
-    s: u32,
-    t: u32,
-) -> Combined
-    requires { (p < 2 ^ 16) × (q < 2 ^ 16) × (s < 2 ^ 16) × (t < 2 ^ 16) }
-    ensures { result ≡ halves_of variant (lane_of variant 16 sublow p q) (lane_of variant 16 subhigh s t) }
+// A word with its halves exchanged.
+fn exchange(w: [u8; 4]) -> [u8; 4]
+    ensures { (low_of result ≡ high_of w) × (high_of result ≡ low_of w) }
+{
+    [w[2], w[3], w[0], w[1]]
+}
+
+// The halves are read here and not before the match over the operation, so that the bytes stay together for `bytewise`.
+fn halfwise(variant: Variant, sublow: bool, subhigh: bool, n: [u8; 4], m: [u8; 4]) -> Combined
+    ensures { result ≡ halves_of variant (lane_of variant 16 sublow (low_of n) (low_of m)) (lane_of variant 16 subhigh (high_of n) (high_of m)) }
 {
     join_halves(
         variant,
-        combine(variant, 16, sublow, p, q),
-        combine(variant, 16, subhigh, s, t),
+        combine(variant, 16, sublow, low_of(n), low_of(m)),
+        combine(variant, 16, subhigh, high_of(n), high_of(m)),
     )
 }
 
@@ -252,15 +257,11 @@ fn halfwise(
 pub fn parallel(variant: Variant, operation: Operation, n: [u8; 4], m: [u8; 4]) -> Combined
     ensures { (result ≡ parallel_of variant operation n m) × IfSome result.ge (λ ge. ge < 16) }
 {
-    let p = half_of(n[0], n[1]);
-    let q = half_of(m[0], m[1]);
-    let s = half_of(n[2], n[3]);
-    let t = half_of(m[2], m[3]);
     match operation {
-        Operation::Add16 => halfwise(variant, false, p, q, false, s, t),
-        Operation::Asx => halfwise(variant, true, p, t, false, s, q),
-        Operation::Sax => halfwise(variant, false, p, t, true, s, q),
-        Operation::Sub16 => halfwise(variant, true, p, q, true, s, t),
+        Operation::Add16 => halfwise(variant, false, false, n, m),
+        Operation::Asx => halfwise(variant, true, false, n, exchange(m)),
+        Operation::Sax => halfwise(variant, false, true, n, exchange(m)),
+        Operation::Sub16 => halfwise(variant, true, true, n, m),
         Operation::Add8 => bytewise(variant, false, n, m),
         Operation::Sub8 => bytewise(variant, true, n, m),
     }

@@ -97,6 +97,7 @@ fn cps(m: Machine, op: u32) -> Machine
     }
 }
 
+// Out of the dispatcher, whose registers are then kept for what is often met.
 #[tactic(auto, using(bits::specs::Cases::cases), unfolding(crate::specs::Moves::moves_of))]
 #[cold]
 #[inline(never)]

@@ -40,11 +40,6 @@ module _ (i rest : ℕ) (h : i < 16) where
   pub rest_small : rest < 2 ^ (16 - i) → rest / 2 < 2 ^ (16 - (i + 1))
   rest_small s = let p : 2 ^ (16 - i) ≡ 2 * 2 ^ (16 - (i + 1)) = rw (left_suc 16 i h) (omega arith) in omega arith
 
--- a bit that is left belongs to one of the sixteen
-pub rest_reach : (i rest : ℕ) → rest < 2 ^ (16 - i) → 0 < rest → i < 16
-rest_reach i rest s h =
-    ⊎_elim (λ k. k) (λ k. let e : 16 - i ≡ 0 = omega arith in let z : rest < 2 ^ 0 = rw e at s in absurd (omega arith)) (split i 16)
-
 halved_zero : (n i : ℕ) → halved_from n i 0 ≡ []
 unfolding halved_from when◌then◌else◌
 halved_zero zero i = refl

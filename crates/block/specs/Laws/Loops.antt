@@ -10,7 +10,7 @@ use Rattle.memory.specs.Laws.Plans.{inside_next}
 use Rattle.memory.specs.Laws.Bytes.{length_word}
 use Rattle.block.specs.declared.Plan.{Plan}
 use Rattle.block.specs.Block.{found_of, stored_list_of, put_each, loaded_list_of}
-use Rattle.block.specs.Laws.Lists.{rest_of, halved_is, rest_set, rest_clear, rest_small, rest_reach, rest_none, count_rest}
+use Rattle.block.specs.Laws.Lists.{rest_of, halved_is, rest_set, rest_clear, rest_small, rest_none, count_rest}
 
 -- A transfer under way: the registers of rest, from i on, have their words from a on.
 pub record Under (len rest a i : ℕ) : Type 0 where
@@ -24,25 +24,22 @@ under_first p len s t = record { small = s; inside = rw (count_rest p.list s) at
 pub under_none : {len rest a i : ℕ} → Under len rest a i → 16 ≤ i → rest ≤ 0
 under_none {i = i} u h = let e : 16 - i ≡ 0 = omega arith in omega (arith, rw e at u.small)
 
-module _ {len rest a i : ℕ} (u : Under len rest a i) (h : 0 < rest) where
-  pub under_reach : i < 16
-  under_reach = rest_reach i rest u.small h
-
+module _ {len rest a i : ℕ} (u : Under len rest a i) (h : i < 16) where
   under_next : rest % 2 ≡ 1 → (a + 4 ≤ len) × (outside_of len ((a + 4) % 2 ^ 32) 4 (length (rest_of (i + 1) (rest / 2))) ≡ None)
   under_next b =
       let n : ℕ = length (rest_of (i + 1) (rest / 2)) in
       let e : suc n - 1 ≡ n = omega arith in
-      rw e at (inside_next len a 4 (suc n) (omega arith) (rw (rest_set i rest under_reach b) at u.inside))
+      rw e at (inside_next len a 4 (suc n) (omega arith) (rw (rest_set i rest h b) at u.inside))
 
   pub under_here : rest % 2 ≡ 1 → a + 4 ≤ len
   under_here b = (under_next b).0
 
   pub under_set : rest % 2 ≡ 1 → Under len (rest / 2) ((a + 4) % 2 ^ 32) (i + 1)
-  under_set b = record { small = rest_small i rest under_reach u.small; inside = (under_next b).1 }
+  under_set b = record { small = rest_small i rest h u.small; inside = (under_next b).1 }
 
   pub under_clear : (rest % 2 ≡ 1 → ⊥) → Under len (rest / 2) a (i + 1)
   under_clear b =
-      record { small = rest_small i rest under_reach u.small; inside = rw (rest_clear i rest under_reach b) at u.inside }
+      record { small = rest_small i rest h u.small; inside = rw (rest_clear i rest h b) at u.inside }
 
 -- a store, a register at a time
 unfoldable pub stored_from : (ℕ → ℕ) → List ℕ → ℕ → List ℕ → List ℕ
@@ -68,21 +65,21 @@ pub storing_first : (p : Plan) (source : ℕ → ℕ) (l : List ℕ) → p.list 
 storing_first p source l s t = record { under = under_first p (length l) s t; whole = refl; long = refl }
 
 module _ {source : ℕ → ℕ} {before : List ℕ} {at list : ℕ} {l : List ℕ} {rest a i : ℕ} (s : Storing source before at list l rest a i) where
-  pub storing_set : 0 < rest → rest % 2 ≡ 1 → Storing source before at list (put_word l a (source i)) (rest / 2) ((a + 4) % 2 ^ 32) (i + 1)
+  pub storing_set : i < 16 → rest % 2 ≡ 1 → Storing source before at list (put_word l a (source i)) (rest / 2) ((a + 4) % 2 ^ 32) (i + 1)
   unfolding stored_from
   storing_set h b =
       let n : length (put_word l a (source i)) ≡ length l = length_word l a (source i) in
       record {
         under = rw n (under_set s.under h b);
-        whole = s.whole ∙ ap (stored_from source l a) (rest_set i rest (under_reach s.under h) b);
+        whole = s.whole ∙ ap (stored_from source l a) (rest_set i rest h b);
         long = n ∙ s.long;
       }
 
-  pub storing_clear : 0 < rest → (rest % 2 ≡ 1 → ⊥) → Storing source before at list l (rest / 2) a (i + 1)
+  pub storing_clear : i < 16 → (rest % 2 ≡ 1 → ⊥) → Storing source before at list l (rest / 2) a (i + 1)
   storing_clear h b =
       record {
         under = under_clear s.under h b;
-        whole = s.whole ∙ ap (stored_from source l a) (rest_clear i rest (under_reach s.under h) b);
+        whole = s.whole ∙ ap (stored_from source l a) (rest_clear i rest h b);
         long = s.long;
       }
 
@@ -115,19 +112,19 @@ pub loading_first : {A : Type 0} (p : Plan) (put : A → ℕ → ℕ → A) (x :
 loading_first p put x l s t = record { under = under_first p (length l) s t; whole = refl }
 
 module _ {A : Type 0} {put : A → ℕ → ℕ → A} {before : A} {l : List ℕ} {at list : ℕ} {x : A} {rest a i : ℕ} (s : Loading put before l at list x rest a i) where
-  pub loading_set : 0 < rest → rest % 2 ≡ 1 → Loading put before l at list (put x i (word_at l a)) (rest / 2) ((a + 4) % 2 ^ 32) (i + 1)
+  pub loading_set : i < 16 → rest % 2 ≡ 1 → Loading put before l at list (put x i (word_at l a)) (rest / 2) ((a + 4) % 2 ^ 32) (i + 1)
   unfolding loaded_from
   loading_set h b =
       record {
         under = under_set s.under h b;
-        whole = s.whole ∙ ap (loaded_from put x l a) (rest_set i rest (under_reach s.under h) b);
+        whole = s.whole ∙ ap (loaded_from put x l a) (rest_set i rest h b);
       }
 
-  pub loading_clear : 0 < rest → (rest % 2 ≡ 1 → ⊥) → Loading put before l at list x (rest / 2) a (i + 1)
+  pub loading_clear : i < 16 → (rest % 2 ≡ 1 → ⊥) → Loading put before l at list x (rest / 2) a (i + 1)
   loading_clear h b =
       record {
         under = under_clear s.under h b;
-        whole = s.whole ∙ ap (loaded_from put x l a) (rest_clear i rest (under_reach s.under h) b);
+        whole = s.whole ∙ ap (loaded_from put x l a) (rest_clear i rest h b);
       }
 
   pub loading_last : rest ≤ 0 → loaded_from put before l at (rest_of 0 list) ≡ x

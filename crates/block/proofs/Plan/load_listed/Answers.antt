@@ -8,20 +8,16 @@ loop-i-init g c = loading_first c.args.self _ _ _ (search rules) c.requires
 
 pub read32-requires : goal.read32-requires
 read32-requires g c =
-    under_here c.loop-i.invariant.under (omega (arith, c.if-rest-eq0.false)) c.if-rest-eq1.true
+    under_here c.loop-i.invariant.under c.loop-i-test.true c.if-rest-eq1.true
 
 pub loop-i-preserved : goal.loop-i-preserved
 loop-i-preserved g c =
-    let h : 0 < c.loop-i.rest = omega (arith, c.if-rest-eq0.false) in
+    let h = c.loop-i-test.true in
     elim c.if-rest-eq1.branch [
       | then-rest-eq1 w ↦ rw (w.to-is, w.a-is, w.put.ensures, w.read32.ensures) (loading_set c.loop-i.invariant h w.if-rest-eq1.true)
       | else-rest-eq1 w ↦ rw (w.to-is, w.a-is) (loading_clear c.loop-i.invariant h w.if-rest-eq1.false)
     ]
 
-pub returns-after-loop-i : goal.returns-after-loop-i
-returns-after-loop-i g c =
+pub returns : goal.returns
+returns g c =
     sym (loaded_is _ c.args.self _ _ (search rules) ∙ loading_last c.loop-i.invariant (under_none c.loop-i.invariant.under (omega (arith, c.loop-i-test.false))))
-
-pub returns-then-rest-eq0 : goal.returns-then-rest-eq0
-returns-then-rest-eq0 g c =
-    sym (loaded_is _ c.args.self _ _ (search rules) ∙ loading_last c.loop-i.invariant (omega (arith, c.if-rest-eq0.true)))

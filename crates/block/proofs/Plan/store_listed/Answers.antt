@@ -7,11 +7,11 @@ pub loop-value-init : goal.loop-value-init
 loop-value-init c = storing_first c.args.self _ _ (search rules) c.requires
 
 pub write32-requires : goal.write32-requires
-write32-requires c = under_here c.loop-value.invariant.under (omega (arith, c.if-rest-eq0.false)) c.if-rest-eq1.true
+write32-requires c = under_here c.loop-value.invariant.under c.loop-value-test.true c.if-rest-eq1.true
 
 pub loop-value-preserved : goal.loop-value-preserved
 loop-value-preserved c =
-    let h : 0 < c.loop-value.rest = omega (arith, c.if-rest-eq0.false) in
+    let h = c.loop-value-test.true in
     elim c.if-rest-eq1.branch [
       | then-rest-eq1 w ↦ rw (w.mem-is, w.a-is, w.write32.ensures) (storing_set c.loop-value.invariant h w.if-rest-eq1.true)
       | else-rest-eq1 w ↦ rw (w.mem-is, w.a-is) (storing_clear c.loop-value.invariant h w.if-rest-eq1.false)
