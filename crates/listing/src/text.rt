@@ -1,5 +1,5 @@
 // Reading a line of the list from left to right; `None` where it cannot be read.
-ghost use Rattle.std.specs.Prelude.{◌≡◌, ◌≢◌, ℕ, ◌<◌, ◌≤◌, ◌∷◌, IfSome, IfNone, MatchOption, length, slice_index};
+ghost use Rattle.std.specs.Prelude.{◌≡◌, ◌==◌, ◌≢◌, ℕ, ◌<◌, ◌≤◌, ◌∷◌, IfSome, IfNone, MatchOption, length, slice_index};
 ghost use Rattle.listing.specs.Digits.{digit_of};
 ghost use Rattle.listing.specs.Reading.{LeadsTo};
 
@@ -11,6 +11,13 @@ pub fn find(text: &[u8], b: u8) -> Option<usize>
     ensures absent { IfNone result ((k : ℕ) → k < length text.now → slice_index text.now k ≢ b) }
 {
     text.iter().position(|x| *x == b)
+}
+
+// Whether the byte is a line feed, 10, at which a line of the list ends.
+pub fn ends_line(byte: &u8) -> bool
+    ensures { result ≡ (byte.now == 10) }
+{
+    *byte == b'\n'
 }
 
 // The value of a hexadecimal digit, in capitals.
