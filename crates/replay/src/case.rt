@@ -1,4 +1,6 @@
 // One line of the list, replayed.
+ghost use Rattle.listing.specs.Reading.{LeadsTo};
+
 use cpu::{Machine, Report};
 use engine::{Finished, Stepped};
 use listing::judge::Difference;
@@ -42,7 +44,10 @@ fn call_of(letter: u8) -> Option<Call> {
 }
 
 // The lengths that the list may name are those of the rooms.
-fn read_head(line: &mut Cursor) -> Option<Head> {
+#[tactic(auto, using(listing::specs::Laws::Reading::leading))]
+fn read_head(line: &mut Cursor) -> Option<Head>
+    ensures { LeadsTo line.old.rest.now line.new.rest.now }
+{
     let call = call_of(*line.rest.first()?)?;
     line.skip_to(b' ')?;
     let seed = line.field()?;
@@ -57,14 +62,20 @@ fn read_head(line: &mut Cursor) -> Option<Head> {
 }
 
 // The count, where the line is a run.
-fn read_count(line: &mut Cursor, call: Call) -> Option<u32> {
+#[tactic(auto, using(listing::specs::Laws::Reading::leading))]
+fn read_count(line: &mut Cursor, call: Call) -> Option<u32>
+    ensures { LeadsTo line.old.rest.now line.new.rest.now }
+{
     match call {
         Call::Run => line.field(),
         Call::Step | Call::Fetch => Some(0),
     }
 }
 
-fn read_listed(line: &mut Cursor, call: Call) -> Option<Listed> {
+#[tactic(auto, using(listing::specs::Laws::Reading::leading))]
+fn read_listed(line: &mut Cursor, call: Call) -> Option<Listed>
+    ensures { LeadsTo line.old.rest.now line.new.rest.now }
+{
     line.pass(b' ')?;
     line.pass(b'>')?;
     let number = line.field()?;
@@ -88,7 +99,9 @@ fn settle_state(state: &mut [u8; 216]) {
 }
 
 // The state and the memory before the call.
-fn read_before(line: &mut Cursor, head: &Head, before: &mut Scene) -> Option<()> {
+fn read_before(line: &mut Cursor, head: &Head, before: &mut Scene) -> Option<()>
+    ensures { LeadsTo line.old.rest.now line.new.rest.now }
+{
     make::fill(head.seed, head.length, before);
     items::set_items(line, before)?;
     settle_state(&mut before.state);
@@ -103,7 +116,10 @@ fn copy_bytes(from: &[u8], to: &mut [u8]) {
 }
 
 // What is listed after the call: what was before it, but for the items.
-fn read_after(line: &mut Cursor, head: &Head, before: &Scene, after: &mut Scene) -> Option<Listed> {
+#[tactic(auto, using(listing::specs::Laws::Reading::leading))]
+fn read_after(line: &mut Cursor, head: &Head, before: &Scene, after: &mut Scene) -> Option<Listed>
+    ensures { LeadsTo line.old.rest.now line.new.rest.now }
+{
     after.state = before.state;
     copy_bytes(before.memory, after.memory);
     let listed = read_listed(line, head.call)?;

@@ -3,8 +3,8 @@
 
 ghost use Rattle.std.specs.Prelude.{◌≡◌, length};
 
-use listing::say;
 use listing::text::Cursor;
+use listing::{say, text};
 use std::io;
 use std::io::Write;
 
@@ -39,7 +39,7 @@ fn replay_all<W: Write>(
 ) -> io::Result<()> {
     let mut counts = [0u32; 12];
     let mut number: u32 = 0;
-    for line in list.split(|byte| *byte == b'\n') {
+    for line in list.split(text::ends_line) {
         number = number.wrapping_add(1);
         if holds_case(line) {
             if let Err(difference) = case::replay_line(line, room, listed_room) {
