@@ -49,8 +49,6 @@ fn execute_cold(
     ensures { (result, regs.new, mem.new) ≡ effect_of family regs.old op seen mem.old }
 {
     match family {
-        Family::Swap => exclusive::swap(regs, mem, op),
-        Family::Exclusive => exclusive::execute(regs, mem, op, seen.tag),
         Family::StatusMove => Outcome::Moves,
         Family::Breakpoint => misc::breakpoint(regs, op),
         Family::Coprocessor => misc::coprocessor(regs, op),
@@ -59,7 +57,6 @@ fn execute_cold(
         Family::BranchLinkExchange => misc::branch_link_exchange(regs, op),
         Family::ClearExclusive => misc::clear_exclusive(regs),
         Family::ChangeState => Outcome::Moves,
-        Family::Preload => cpu::finish(regs),
         _ => cpu::refuse(regs, op),
     }
 }
@@ -81,6 +78,9 @@ fn execute(family: Family, regs: &mut [u32; 16], op: u32, seen: Seen, mem: &mut 
         Family::Media => media::execute(regs, op, seen.ge),
         Family::Block => block::execute(regs, op, mem),
         Family::Branch => misc::branch(regs, op),
+        Family::Swap => exclusive::swap(regs, mem, op),
+        Family::Exclusive => exclusive::execute(regs, mem, op, seen.tag),
+        Family::Preload => cpu::finish(regs),
         _ => execute_cold(family, regs, op, seen, mem),
     }
 }

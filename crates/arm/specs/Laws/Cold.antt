@@ -17,8 +17,8 @@ is_cold Single = false
 is_cold Block = false
 is_cold Halfword = false
 is_cold Saturating = false
-is_cold Swap = true
-is_cold Exclusive = true
+is_cold Swap = false
+is_cold Exclusive = false
 is_cold Extra = false
 is_cold StatusMove = true
 is_cold Breakpoint = true
@@ -29,7 +29,7 @@ is_cold Undefined = true
 is_cold BranchLinkExchange = true
 is_cold ClearExclusive = true
 is_cold ChangeState = true
-is_cold Preload = true
+is_cold Preload = false
 
 -- a family cannot be cold and be one that is not
 pub not_cold : {A : Type 0} {f g : Family} → is_cold f ≡ true → f ≡ g → is_cold g ≡ false → A
