@@ -33,11 +33,11 @@ module _ (regs l : List ℕ) where
   landed : (now : List ℕ) (rd value : ℕ) (l' : List ℕ) → Sound regs l (beside (landed_of now rd value) l')
   unfolding landed_of
   landed now rd value l' =
-      if_both (λ (x : Outcome × List ℕ). Sound regs l (beside x l')) _ (sound_going refl refl) (sound_going refl refl)
+      if_both (λ (x : Outcome × List ℕ). Sound regs l (beside x l')) _ (sound_going refl (lit≤ tt)) (sound_going refl (lit≤ tt))
 
   exchanged : (now : List ℕ) (to : ℕ) → Alone (exchanged_of now to)
   unfolding exchanged_of
-  exchanged now to = if_both Alone _ (sound_going refl refl) (sound_going refl refl)
+  exchanged now to = if_both Alone _ (sound_going refl (lit≤ tt)) (sound_going refl (lit≤ tt))
 
   guarded : (f : Option ℕ) {done : Outcome × List ℕ × List ℕ} → Sound regs l done → Sound regs l (guarded_of f regs l done)
   guarded f = guarded_both (Sound regs l) f regs l (λ address. sound_stop (Bus address) refl)
@@ -46,12 +46,12 @@ module _ (regs l : List ℕ) where
   unfolding dataproc_of placed_of
   sound_dataproc op c v =
       if_both Alone _
-      (if_both Alone _ (sound_going refl refl) (sound_going refl refl))
-      (if_both Alone _ (if_both Alone _ (sound_going refl refl) (sound_going refl refl)) (landed regs _ _ l))
+      (if_both Alone _ (sound_going refl (lit≤ tt)) (sound_going refl (lit≤ tt)))
+      (if_both Alone _ (if_both Alone _ (sound_going refl (lit≤ tt)) (sound_going refl (lit≤ tt))) (landed regs _ _ l))
 
   settled : (op value : ℕ) (c v : Bool) → Alone (settled_of regs op value c v)
   unfolding settled_of
-  settled op value c v = if_both Alone _ (sound_going refl refl) (sound_going refl refl)
+  settled op value c v = if_both Alone _ (sound_going refl (lit≤ tt)) (sound_going refl (lit≤ tt))
 
   sound_short : (op : ℕ) (c v : Bool) → Alone (short_of regs op c v)
   unfolding short_of
@@ -60,13 +60,13 @@ module _ (regs l : List ℕ) where
   sound_long : (op : ℕ) (c v : Bool) → Alone (long_multiply_of regs op c v)
   unfolding long_multiply_of wide_settled_of
   sound_long op c v =
-      if_both Alone _ (sound_going refl refl) (if_both Alone _ (sound_going refl refl) (sound_going refl refl))
+      if_both Alone _ (sound_going refl (lit≤ tt)) (if_both Alone _ (sound_going refl (lit≤ tt)) (sound_going refl (lit≤ tt)))
 
   sound_halfword : (op : ℕ) → Alone (halfword_of regs op)
   unfolding halfword_of
   sound_halfword op =
       if_both Alone _ (sound_sticky _)
-      (if_both Alone _ (if_both Alone _ (sound_going refl refl) (sound_sticky _)) (if_both Alone _ (sound_going refl refl) (sound_going refl refl)))
+      (if_both Alone _ (if_both Alone _ (sound_going refl (lit≤ tt)) (sound_sticky _)) (if_both Alone _ (sound_going refl (lit≤ tt)) (sound_going refl (lit≤ tt))))
 
   sound_saturating : (op : ℕ) → Alone (saturating_of regs op)
   unfolding saturating_of
@@ -80,7 +80,7 @@ module _ (regs l : List ℕ) where
 
   sound_branch : (op : ℕ) → Alone (branch_of regs op)
   unfolding branch_of
-  sound_branch op = if_both Alone _ (sound_going refl refl) (sound_going refl refl)
+  sound_branch op = if_both Alone _ (sound_going refl (lit≤ tt)) (sound_going refl (lit≤ tt))
 
   sound_branch_exchange : (op : ℕ) → Alone (branch_exchange_of regs op)
   unfolding branch_exchange_of
@@ -88,12 +88,12 @@ module _ (regs l : List ℕ) where
 
   sound_move : (op : ℕ) → Alone (coprocessor_move_of regs op)
   unfolding coprocessor_move_of coprocessor_of
-  sound_move op = if_both Alone _ (sound_stop (Coprocessor op) refl) (sound_going refl refl)
+  sound_move op = if_both Alone _ (sound_stop (Coprocessor op) refl) (sound_going refl (lit≤ tt))
 
   sound_single : (op : ℕ) (c : Bool) → Sound regs l (single_of regs op c l)
   unfolding single_of single_at taken_of
   sound_single op c =
-      guarded _ (if_both (Sound regs l) _ (if_both Alone _ (exchanged _ _) (sound_going refl refl)) (sound_going refl refl))
+      guarded _ (if_both (Sound regs l) _ (if_both Alone _ (exchanged _ _) (sound_going refl (lit≤ tt))) (sound_going refl (lit≤ tt)))
 
   sound_extra : (op : ℕ) → Sound regs l (extra_of regs op l)
   unfolding extra_of extra_at extra_loads_of
@@ -101,15 +101,15 @@ module _ (regs l : List ℕ) where
       if_both (Sound regs l) _ (sound_stop (TransferForm op) refl)
       (if_both (Sound regs l) _
       (if_both (Sound regs l) _ (guarded _ (landed _ _ _ l)) (if_both (Sound regs l) _ (guarded _ (landed _ _ _ l)) (guarded _ (landed _ _ _ l))))
-      (if_both (Sound regs l) _ (guarded _ (sound_going refl refl))
+      (if_both (Sound regs l) _ (guarded _ (sound_going refl (lit≤ tt)))
       (if_both (Sound regs l) _ (sound_stop (Undefined (own_of regs) op) refl)
-      (if_both (Sound regs l) _ (guarded _ (landed _ _ _ l)) (guarded _ (sound_going refl refl))))))
+      (if_both (Sound regs l) _ (guarded _ (landed _ _ _ l)) (guarded _ (sound_going refl (lit≤ tt)))))))
 
   sound_block : (op : ℕ) → Sound regs l (block_of regs op l)
   unfolding block_of store_of load_of continued_of
   sound_block op =
       if_both (Sound regs l) _ sound_wait
-      (guarded _ (if_both (Sound regs l) _ (if_both Alone _ (exchanged _ _) (sound_going refl refl)) (sound_going refl refl)))
+      (guarded _ (if_both (Sound regs l) _ (if_both Alone _ (exchanged _ _) (sound_going refl (lit≤ tt))) (sound_going refl (lit≤ tt))))
 
   sound_swap : (op : ℕ) → Sound regs l (swap_of regs op l)
   unfolding swap_of
@@ -120,12 +120,12 @@ module _ (regs l : List ℕ) where
   sound_exclusive op tag =
       if_both (Sound regs l) _
       (if_both (Sound regs l) _
-      (if_both (Sound regs l) _ (sound_stop (Undefined (own_of regs) op) refl) (guarded _ (sound_going refl refl)))
-      (guarded _ (sound_going refl refl)))
+      (if_both (Sound regs l) _ (sound_stop (Undefined (own_of regs) op) refl) (guarded _ (sound_going refl (lit≤ tt))))
+      (guarded _ (sound_going refl (lit≤ tt))))
       (if_both (Sound regs l) _
       (if_both (Sound regs l) _ (sound_stop (Undefined (own_of regs) op) refl)
-      (if_both (Sound regs l) _ (guarded _ (sound_going refl refl)) (landed regs _ _ l)))
-      (if_both (Sound regs l) _ (guarded _ (sound_going refl refl)) (landed regs _ _ l)))
+      (if_both (Sound regs l) _ (guarded _ (sound_going refl (lit≤ tt))) (landed regs _ _ l)))
+      (if_both (Sound regs l) _ (guarded _ (sound_going refl (lit≤ tt))) (landed regs _ _ l)))
 
 pub sound_effect : (f : Family) (regs : List ℕ) (op : ℕ) (s : Seen) (l : List ℕ) → Sound regs l (effect_of f regs op s l)
 unfolding effect_of branch_link_exchange_of clz_of swi_of bkpt_of coprocessor_of clrex_of
@@ -137,18 +137,18 @@ sound_effect family.Saturating regs op s l = sound_saturating regs l op
 sound_effect family.Media regs op s l = media_left regs l op s.ge (kinds_of_media regs op s.ge)
 sound_effect family.Branch regs op s l = sound_branch regs l op
 sound_effect family.BranchExchange regs op s l = sound_branch_exchange regs l op
-sound_effect family.BranchLinkExchange regs op s l = sound_going refl refl
-sound_effect family.CountZeros regs op s l = sound_going refl refl
+sound_effect family.BranchLinkExchange regs op s l = sound_going refl (lit≤ tt)
+sound_effect family.CountZeros regs op s l = sound_going refl (lit≤ tt)
 sound_effect family.Single regs op s l = sound_single regs l op s.c
 sound_effect family.Extra regs op s l = sound_extra regs l op
 sound_effect family.Block regs op s l = sound_block regs l op
 sound_effect family.Swap regs op s l = sound_swap regs l op
 sound_effect family.Exclusive regs op s l = sound_exclusive regs l op s.tag
-sound_effect family.ClearExclusive regs op s l = sound_going refl refl
-sound_effect family.StatusMove regs op s l = sound_going refl refl
-sound_effect family.ChangeState regs op s l = sound_going refl refl
-sound_effect family.Preload regs op s l = sound_going refl refl
-sound_effect family.Supervisor regs op s l = sound_going refl refl
+sound_effect family.ClearExclusive regs op s l = sound_going refl (lit≤ tt)
+sound_effect family.StatusMove regs op s l = sound_going refl (lit≤ tt)
+sound_effect family.ChangeState regs op s l = sound_going refl (lit≤ tt)
+sound_effect family.Preload regs op s l = sound_going refl (lit≤ tt)
+sound_effect family.Supervisor regs op s l = sound_going refl (lit≤ tt)
 sound_effect family.Breakpoint regs op s l = sound_stop (Breakpoint _ _) refl
 sound_effect family.Coprocessor regs op s l = sound_stop (Coprocessor op) refl
 sound_effect family.CoprocessorMove regs op s l = sound_move regs l op
@@ -160,4 +160,4 @@ unfolding turn_of
 sound_turn regs at op s l =
     if_both (Sound (set regs 15 ((at + 8) % 2 ^ 32)) l) _
     (sound_effect (family_of op) (set regs 15 ((at + 8) % 2 ^ 32)) op s l)
-    (sound_going refl refl)
+    (sound_going refl (lit≤ tt))

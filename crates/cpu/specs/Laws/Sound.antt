@@ -1,6 +1,6 @@
 -- What every family keeps, so that the engine's claims follow once for all.
 use Rattle.std.specs.Prelude.{◌≡◌, refl, Bool, true, false, List, ℕ, ◌≤◌}
-use Rattle.std.proofs.Common.{sym, ap, ◌∙◌, arith}
+use Rattle.std.proofs.Common.{sym, ap, ◌∙◌, arith, lit≤}
 use Rattle.std.proofs.lemmas.Bool.{false≢true}
 use Rattle.bits.specs.Cases.{if_both}
 use Rattle.cpu.specs.declared.Answer.{Answer}
@@ -44,23 +44,23 @@ sound_on f h =
       ge_fits = h;
     }
 
--- GE is what is left to set
-abbrev pub is_lanes : Outcome → Bool
-is_lanes Nothing = false
-is_lanes (Flags n z c v) = false
-is_lanes Sticky = false
-is_lanes (Lanes ge) = true
-is_lanes (Exchange t) = false
-is_lanes (Tagged at) = false
-is_lanes Untagged = false
-is_lanes (Return at) = false
-is_lanes Moves = false
-is_lanes Block = false
-is_lanes (Call number) = false
-is_lanes (Stop answer) = false
+-- the GE that is left to set; 0 where none is
+abbrev pub ge_in : Outcome → ℕ
+ge_in Nothing = 0
+ge_in (Flags n z c v) = 0
+ge_in Sticky = 0
+ge_in (Lanes ge) = ge
+ge_in (Exchange t) = 0
+ge_in (Tagged at) = 0
+ge_in Untagged = 0
+ge_in (Return at) = 0
+ge_in Moves = 0
+ge_in Block = 0
+ge_in (Call number) = 0
+ge_in (Stop answer) = 0
 
-pub sound_going : {regs l : List ℕ} {o : Outcome} {regs' l' : List ℕ} → keeps o ≡ false → is_lanes o ≡ false → Sound regs l (o, regs', l')
-sound_going f g = sound_on f (λ ge e. never g (ap is_lanes e))
+pub sound_going : {regs l : List ℕ} {o : Outcome} {regs' l' : List ℕ} → keeps o ≡ false → ge_in o ≤ 15 → Sound regs l (o, regs', l')
+sound_going f h = sound_on f (λ ge e. rw (← ap ge_in e) h)
 
 -- an outcome that stops with everything as it came
 pub sound_stop : {regs l : List ℕ} (a : Answer) → refuses a ≡ true → Sound regs l (Stop a, regs, l)
@@ -73,4 +73,4 @@ sound_wait = record { registers = λ _. refl; bytes = λ _. refl; refusal = λ b
 pub sound_sticky : {regs l : List ℕ} (on : Bool) {regs' l' : List ℕ} → Sound regs l (sticky on, regs', l')
 unfolding sticky
 sound_sticky {regs} {l} on {regs'} {l'} =
-    if_both (λ (o : Outcome). Sound regs l (o, regs', l')) on (sound_going refl refl) (sound_going refl refl)
+    if_both (λ (o : Outcome). Sound regs l (o, regs', l')) on (sound_going refl (lit≤ tt)) (sound_going refl (lit≤ tt))
