@@ -43,7 +43,7 @@ fn operation_of(k: u32) -> Option<Operation>
 fn put_combined(regs: &mut [u32; 16], op: u32, x: Combined) -> Outcome
     ensures { (result, regs.new) ≡ combined_of regs.old op x }
 {
-    let value = u32::from_le_bytes(x.lanes);
+    let value = bits::join(x.lanes);
     match x.ge {
         Some(ge) => {
             regs[(op / 4096 % 16) as usize] = value;
@@ -61,8 +61,8 @@ fn parallel(regs: &mut [u32; 16], op: u32) -> Outcome
 {
     match (variant_of(op / 1048576 % 8), operation_of(op / 32 % 8)) {
         (Some(variant), Some(operation)) => {
-            let n = regs[(op / 65536 % 16) as usize].to_le_bytes();
-            let m = regs[(op % 16) as usize].to_le_bytes();
+            let n = bits::split(regs[(op / 65536 % 16) as usize]);
+            let m = bits::split(regs[(op % 16) as usize]);
             put_combined(regs, op, lanes::parallel(variant, operation, n, m))
         }
         _ => cpu::refuse(regs, op),
@@ -171,9 +171,9 @@ fn extend(regs: &mut [u32; 16], op: u32) -> Outcome
 fn select(regs: &mut [u32; 16], op: u32, ge: u8) -> Outcome
     ensures { (result, regs.new) ≡ selected_of regs.old op ge }
 {
-    let n = regs[(op / 65536 % 16) as usize].to_le_bytes();
-    let m = regs[(op % 16) as usize].to_le_bytes();
-    let value = u32::from_le_bytes(lanes::select(ge, n, m));
+    let n = bits::split(regs[(op / 65536 % 16) as usize]);
+    let m = bits::split(regs[(op % 16) as usize]);
+    let value = bits::join(lanes::select(ge, n, m));
     cpu::put(regs, op / 4096 % 16, value)
 }
 
@@ -289,8 +289,8 @@ fn dual_multiply(regs: &mut [u32; 16], op: u32) -> Outcome
 fn usad8(regs: &mut [u32; 16], op: u32) -> Outcome
     ensures { (result, regs.new) ≡ usad_of regs.old op }
 {
-    let m = regs[(op % 16) as usize].to_le_bytes();
-    let s = regs[(op / 256 % 16) as usize].to_le_bytes();
+    let m = bits::split(regs[(op % 16) as usize]);
+    let s = bits::split(regs[(op / 256 % 16) as usize]);
     if op / 4096 % 16 == 15 {
         cpu::put(regs, op / 65536 % 16, lanes::usad8(m, s))
     } else {
