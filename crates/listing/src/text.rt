@@ -1,5 +1,5 @@
 // Reading a line of the list from left to right; `None` where it cannot be read.
-ghost use Rattle.std.specs.Prelude.{◌≡◌, ◌==◌, ◌≢◌, ℕ, ◌<◌, ◌≤◌, ◌∷◌, IfSome, IfNone, MatchOption, length, slice_index};
+ghost use Rattle.std.specs.Prelude.{◌≡◌, ◌≢◌, ℕ, ◌+◌, ◌<◌, ◌≤◌, ◌∷◌, IfSome, IfNone, MatchOption, drop, length, slice_index, take};
 ghost use Rattle.listing.specs.Digits.{digit_of};
 ghost use Rattle.listing.specs.Reading.{LeadsTo};
 
@@ -13,11 +13,20 @@ pub fn find(text: &[u8], b: u8) -> Option<usize>
     text.iter().position(|x| *x == b)
 }
 
-// Whether the byte is a line feed, 10, at which a line of the list ends.
-pub fn ends_line(byte: &u8) -> bool
-    ensures { result ≡ (byte.now == 10) }
+// The first line of a text, which a line feed, 10, ends, and what follows that.
+pub fn split_line(text: &[u8]) -> (&[u8], &[u8])
+    ensures line { result.0.now ≡ take (length result.0.now) text.now }
+    ensures inside { (k : ℕ) → k < length result.0.now → slice_index text.now k ≢ 10 }
+    ensures end { length result.0.now < length text.now → slice_index text.now (length result.0.now) ≡ 10 }
+    ensures rest { result.1.now ≡ drop (length result.0.now + 1) text.now }
 {
-    *byte == b'\n'
+    match find(text, b'\n') {
+        Some(end) => {
+            let (line, rest) = text.split_at(end);
+            (line, &rest[1..])
+        }
+        None => (text, &[]),
+    }
 }
 
 // The value of a hexadecimal digit, in capitals.
