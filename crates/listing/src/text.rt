@@ -13,7 +13,7 @@ pub fn find(text: &[u8], b: u8) -> Option<usize>
     text.iter().position(|x| *x == b)
 }
 
-// The first line of a text, which a line feed, 10, ends, and what follows that.
+// The first line of a text, up to a line feed, 10, or the end, and what follows that.
 pub fn split_line(text: &[u8]) -> (&[u8], &[u8])
     ensures line { result.0.now ≡ take (length result.0.now) text.now }
     ensures inside { (k : ℕ) → k < length result.0.now → slice_index text.now k ≢ 10 }
